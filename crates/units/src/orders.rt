@@ -4,7 +4,7 @@ ghost use mathlib.Core.Bool.{Bool, true, false};
 ghost use Rattle.std.specs.Options.{isSome};
 
 // A value of such a type is the permission to hold a book order.
-pub trait Orders: Sized {
+pub trait Orders: Sized + Copy {
     // whether there is a permission
     ghost taken: { Bool };
 
