@@ -8,6 +8,8 @@ pub trait Orders: Sized + Copy {
     // whether there is a permission
     ghost taken: { Bool };
 
+    law permitted: { (o : Self) → taken ≡ true };
+
     // The permission, where there is one.
     fn permission() -> Option<Self>
         ensures { λ r. ⌜ isSome r ≡ taken ⌝ };

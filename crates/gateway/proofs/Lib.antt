@@ -1,0 +1,4 @@
+mod Words
+mod Stray
+mod Codec
+mod Cuts
