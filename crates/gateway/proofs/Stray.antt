@@ -1,19 +1,21 @@
 -- The search for a stray byte, a step at a time.
 use mathlib.Core.Path.{_≡_, _∙_, refl, sym, subst}
-use mathlib.Core.Logic.{⊎-elim}
+use mathlib.Core.Logic.{_⊎_, inl, inr, ⊎-elim}
 use borrow.Author.Count.{below-more}
 use mathlib.Core.List.{List, [], _∷_}
-use mathlib.Core.Bool.{Bool, true, false, cond}
-use Prim.Native.Nat.{ℕ, zero, suc, _+_, _<_}
-use native.Mathlib.Nat.{add-zero, le-of-suc-le-suc, not-suc-le-zero}
+use mathlib.Core.Bool.{Bool, true, false, cond, _||_, _&&_}
+use Prim.Native.Nat.{ℕ, zero, suc, _+_, _≤_, _<_, suc-le-suc}
+use native.Mathlib.Nat.{add-zero, zero-add, le-of-suc-le-suc, not-suc-le-zero}
 use native.Mathlib.Omega.{arith}
-use lib.ListN.{length, getD, drop}
+use lib.Dec.{eqb, ltb}
+use lib.ListN.{length, getD, take, drop}
 use Rattle.std.specs.declared.option.Option.the-variants as opt
 use Rattle.std.specs.declared.option.Option.{Option}
-use Rattle.std.proofs.shelf.Lists.{at-drop-more, at-drop-all}
-use Rattle.std.proofs.shelf.Tests.{cond-true, cond-false, cases-bool}
+use Rattle.std.proofs.shelf.Lists.{at-drop-more, at-drop-all, getD-take, length-take-le}
+use Rattle.std.proofs.shelf.Tests.{cond-true, cond-false, cases-bool, and-parts, ltb-true, ltb-false}
+use Rattle.std.proofs.shelf.Ways.{tells}
 use Rattle.gateway.specs.declared.messages.Uses.{Uses}
-use Rattle.gateway.specs.Frames.{first-stray, allowed-at}
+use Rattle.gateway.specs.Frames.{used-at, allowed-at, first-stray, field-at, clean-fields}
 use Rattle.gateway.specs.Laws.{First, Firsts}
 
 pub stray-more : (u : Uses) (xs : List ℕ) (p : ℕ) → p < length xs → allowed-at u p (getD xs p 0) ≡ true
@@ -57,3 +59,72 @@ first-from u b (suc n) i p full e before =
 
 pub firsts : Firsts
 firsts u b p e = first-from u b (length b) 0 p (omega arith) e (λ j h. absurd (omega arith))
+
+-- where each byte may stand where it is, nothing is stray
+all-allowed : (u : Uses) (xs : List ℕ) (p : ℕ) → ((i : ℕ) → i < length xs → allowed-at u (p + i) (getD xs i 0) ≡ true) → first-stray u xs p ≡ opt.None
+all-allowed u [] p all = refl
+all-allowed u (x ∷ xs) p all =
+    cond-true _ _ _ (rw add-zero at (all 0 (omega arith)))
+    ∙ all-allowed u xs (p + 1) (λ i h. rw (suc-add-one p i) (all (suc i) (suc-le-suc h)))
+
+-- a field that is used or zero has bytes that may stand where they are
+word-allowed : (u : Bool) (b : List ℕ) (at j : ℕ) → (u || eqb (field-at b at) 0) ≡ true → at ≤ j → j < at + 4 → (u || eqb (getD b j 0) 0) ≡ true
+word-allowed true b at j e low high = refl
+word-allowed false b at j e low high = grind (arith, tells)
+
+split : (j n : ℕ) → (j < n) ⊎ (n ≤ j)
+split j n = ⊎-elim (λ t. inl (ltb-true j n t)) (λ f. inr (ltb-false j n f)) (cases-bool (ltb j n))
+
+-- the eight fields of a clean frame, one by one
+pub record Clean (u : Uses) (b : List ℕ) : Type 0 where
+  pub firm : (u .firm || eqb (getD b 1 0) 0) ≡ true
+  pub side : (u .side || eqb (getD b 2 0) 0) ≡ true
+  pub zero : eqb (getD b 3 0) 0 ≡ true
+  pub number : (u .number || eqb (field-at b 4) 0) ≡ true
+  pub price : (u .price || eqb (field-at b 8) 0) ≡ true
+  pub quantity : (u .quantity || eqb (field-at b 12) 0) ≡ true
+  pub minimum : (u .minimum || eqb (field-at b 16) 0) ≡ true
+  pub time : (u .time || eqb (field-at b 20) 0) ≡ true
+
+three : (x y z : Bool) → (x && y && z) ≡ true → (x ≡ true) × (y ≡ true) × (z ≡ true)
+three true true true e = (refl, refl, refl)
+three true true false e = (refl, refl, e)
+three true false z e = (refl, e, let no-more : _≡_ {A = ℕ} 0 1 = cc in absurd (omega arith))
+three false y z e = let no-more : _≡_ {A = ℕ} 0 1 = cc in absurd (omega arith)
+
+clean-parts : (u : Uses) (b : List ℕ) → clean-fields u b ≡ true → Clean u b
+clean-parts u b e =
+    let header : Bool = (u .firm || eqb (getD b 1 0) 0) && (u .side || eqb (getD b 2 0) 0) && eqb (getD b 3 0) 0 in
+    let front : Bool = (u .number || eqb (field-at b 4) 0) && (u .price || eqb (field-at b 8) 0) && (u .quantity || eqb (field-at b 12) 0) in
+    let last = and-parts ((header && front) && (u .minimum || eqb (field-at b 16) 0)) (u .time || eqb (field-at b 20) 0) e in
+    let more = and-parts (header && front) (u .minimum || eqb (field-at b 16) 0) (last .0) in
+    let both = and-parts header front (more .0) in
+    let h = three (u .firm || eqb (getD b 1 0) 0) (u .side || eqb (getD b 2 0) 0) (eqb (getD b 3 0) 0) (both .0) in
+    let f = three (u .number || eqb (field-at b 4) 0) (u .price || eqb (field-at b 8) 0) (u .quantity || eqb (field-at b 12) 0) (both .1) in
+    record { firm = h .0; side = h .1; zero = h .2; number = f .0; price = f .1; quantity = f .2; minimum = more .1; time = last .1 }
+
+-- one place after another, each by the field that it is in
+allowed-in-clean : (u : Uses) (b : List ℕ) → Clean u b → (j : ℕ) → j < 24 → allowed-at u j (getD b j 0) ≡ true
+allowed-in-clean u b c j h =
+    ⊎-elim
+    (λ header. grind (arith, tells, c .firm, c .side, c .zero))
+    (λ past4. ⊎-elim
+    (λ below8. let w = word-allowed (u .number) b 4 j (c .number) past4 below8 in grind (arith, tells))
+    (λ past8. ⊎-elim
+    (λ below12. let w = word-allowed (u .price) b 8 j (c .price) past8 below12 in grind (arith, tells))
+    (λ past12. ⊎-elim
+    (λ below16. let w = word-allowed (u .quantity) b 12 j (c .quantity) past12 below16 in grind (arith, tells))
+    (λ past16. ⊎-elim
+    (λ below20. let w = word-allowed (u .minimum) b 16 j (c .minimum) past16 below20 in grind (arith, tells))
+    (λ past20. let w = word-allowed (u .time) b 20 j (c .time) past20 h in grind (arith, tells))
+    (split j 20))
+    (split j 16))
+    (split j 12))
+    (split j 8))
+    (split j 4)
+
+pub clean-none : (u : Uses) (b : List ℕ) → 24 ≤ length b → clean-fields u b ≡ true → first-stray u (take 24 b) 0 ≡ opt.None
+clean-none u b long e =
+    all-allowed u (take 24 b) 0
+    (λ i h. let small : i < 24 = omega (arith, length-take-le 24 b long) in
+    rw (zero-add, getD-take) (allowed-in-clean u b (clean-parts u b e) i small))

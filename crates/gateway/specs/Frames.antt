@@ -1,6 +1,6 @@
 -- What a frame of 32 bytes says, and the frame of a message.
 use mathlib.Core.List.{List, [], _∷_, _++_}
-use mathlib.Core.Bool.{Bool, true, false, cond, _||_}
+use mathlib.Core.Bool.{Bool, true, false, cond, _||_, _&&_}
 use Prim.Native.Nat.{ℕ, _+_, _*_, _/_, _%_}
 use lib.Dec.{eqb, ltb}
 use lib.ListN.{length, getD, take, drop}
@@ -141,6 +141,13 @@ first-stray u (b ∷ bs) p = cond (allowed-at u p b) (first-stray u bs (p + 1)) 
 -- the number of the four bytes at a place, little-endian
 abbrev pub field-at : List ℕ → ℕ → ℕ
 field-at b at = getD b at 0 + getD b (at + 1) 0 * 256 + getD b (at + 2) 0 * 65536 + getD b (at + 3) 0 * 16777216
+
+-- every field that is not used is zero: told by whole fields, where the first stray byte is not asked for
+abbrev pub clean-fields : Uses → List ℕ → Bool
+clean-fields u b =
+    (((((u .firm || eqb (getD b 1 0) 0) && (u .side || eqb (getD b 2 0) 0) && eqb (getD b 3 0) 0)
+    && ((u .number || eqb (field-at b 4) 0) && (u .price || eqb (field-at b 8) 0) && (u .quantity || eqb (field-at b 12) 0)))
+    && (u .minimum || eqb (field-at b 16) 0)) && (u .time || eqb (field-at b 20) 0))
 
 -- the value of a field, 0 where it is not used
 abbrev pub kept : Bool → ℕ → ℕ

@@ -1,14 +1,15 @@
 // Reading a frame.
 ghost use mathlib.Core.Path.{_≡_};
-ghost use mathlib.Core.Bool.{true};
+ghost use mathlib.Core.Bool.{true, _||_};
+ghost use lib.Dec.{eqb};
 ghost use mathlib.Core.List.{_∷_};
 ghost use Prim.Native.Nat.{_+_, _<_, _≤_};
-ghost use lib.ListN.{length, getD};
+ghost use lib.ListN.{length, getD, take};
 ghost use Rattle.std.specs.Options.{Cases as BySome};
 ghost use Rattle.std.specs.Vec.{made};
 ghost use Rattle.std.specs.declared.result.Result.the-variants.{Err};
 ghost use Rattle.gateway.specs.declared.messages.Kind.the-variants as kinds;
-ghost use Rattle.gateway.specs.Frames.{side-code, kind-code, kind-of, uses-of, used-at, allowed-at, first-stray, field-at, meaning, fields-in, answer, decoded, encoded};
+ghost use Rattle.gateway.specs.Frames.{side-code, kind-code, kind-of, uses-of, used-at, allowed-at, first-stray, clean-fields, field-at, meaning, fields-in, answer, decoded, encoded};
 ghost use Rattle.gateway.specs.Laws.{Firsts};
 use super::faults::Fault;
 use super::messages::FRAME;
@@ -175,6 +176,41 @@ fn first_stray(uses: Uses, bytes: &[u8]) -> Option<usize>
     None
 }
 
+// Whether a field may hold a value: it is used, or the value is zero.
+fn is_blank(used: bool, value: u32) -> bool
+    ensures { λ r. ⌜ r ≡ (used || eqb value 0) ⌝ }
+{
+    used || value == 0
+}
+
+// Whether no byte is stray, told from whole fields.
+fn is_clean(uses: Uses, frame: &[u8]) -> bool
+    requires { ⌜ length (now frame) ≡ 32 ⌝ }
+    ensures { λ r. ⌜ r ≡ clean-fields uses (now (frame .entry)) ⌝ }
+{
+    let header = is_blank(uses.firm, u32::from(frame[1]))
+        & is_blank(uses.side, u32::from(frame[2]))
+        & (frame[3] == 0);
+    let front = is_blank(uses.number, field(frame, 4))
+        & is_blank(uses.price, field(frame, 8))
+        & is_blank(uses.quantity, field(frame, 12));
+    header
+        & front
+        & is_blank(uses.minimum, field(frame, 16))
+        & is_blank(uses.time, field(frame, 20))
+}
+
+// The first stray byte of a frame. Only where there is one are its bytes looked at one by one.
+fn stray_in(uses: Uses, frame: &[u8]) -> Option<usize>
+    requires { ⌜ length (now frame) ≡ 32 ⌝ }
+    ensures { λ r. ⌜ r ≡ first-stray uses (take 24 (now (frame .entry))) 0 ⌝ }
+{
+    if is_clean(uses, frame) {
+        return None;
+    }
+    first_stray(uses, &frame[0..24])
+}
+
 // The message of a kind, from its header and the bytes after that.
 fn build<'a, O: Orders>(kind: Kind, firm: Firm, side: MessageSide, rest: &'a [u8]) -> Message<'a, O>
     requires { ⌜ length (now rest) ≡ 28 ⌝ ∗ ⌜ (kind ≡ kinds.Order → O·Orders .taken ≡ true) ⌝ }
@@ -245,7 +281,7 @@ fn header_fault(frame: &[u8], place: usize, orders: bool) -> Fault
     let Some(kind) = kind_of(frame[0], orders) else {
         return Fault::new(Refusal::Kind, place, 0);
     };
-    match first_stray(uses_of(kind), &frame[0..24]) {
+    match stray_in(uses_of(kind), frame) {
         Some(byte) => Fault::new(Refusal::Stray, place, byte),
         None => unreachable(),
     }
@@ -267,7 +303,7 @@ fn decode<'a, O: Orders>(frame: &'a [u8], place: usize) -> Result<Message<'a, O>
     let Some(kind) = kind_of(*kind, orders) else {
         return Err(Fault::new(Refusal::Kind, place, 0));
     };
-    if let Some(byte) = first_stray(uses_of(kind), &frame[0..24]) {
+    if let Some(byte) = stray_in(uses_of(kind), frame) {
         return Err(Fault::new(Refusal::Stray, place, byte));
     }
     match side_of(*side) {

@@ -13,8 +13,8 @@ returns-in-rest g c = record { result = search needs; rewrites = tt; firsts = fi
 pub returns-in-rest-kind-of : need.returns-in-rest-kind-of
 returns-in-rest-kind-of g c = record { result = search needs; rewrites = tt; firsts = firsts }
 
-pub returns-in-Some-first-stray : need.returns-in-Some-first-stray
-returns-in-Some-first-stray g c = record { result = search needs; rewrites = tt; firsts = firsts }
+pub returns-in-Some-stray-in : need.returns-in-Some-stray-in
+returns-in-Some-stray-in g c = record { result = search needs; rewrites = tt; firsts = firsts }
 
 pub returns-in-None : need.returns-in-None
 returns-in-None g c = record { result = search needs; rewrites = tt; firsts = firsts }
