@@ -3,7 +3,7 @@ use mathlib.Core.Path.{_≡_, _∙_, refl, sym, ap}
 use mathlib.Core.List.{List, [], _∷_, _++_}
 use mathlib.Core.Bool.{Bool, cond}
 use Prim.Native.Nat.{ℕ, zero, suc, _+_, _-_, _*_, _/_, _%_, _<_, _≤_}
-use native.Mathlib.Nat.{mul-suc, mul-add, mul-add-mod-self-left, add-assoc}
+use native.Mathlib.Nat.{zero-add, mul-suc, mul-add, mul-add-mod-self-left, add-assoc}
 use native.Mathlib.Omega.{arith}
 use lib.Dec.{eqb, ltb}
 use lib.ListN.{length, take, drop, length-append}
@@ -13,6 +13,8 @@ use Rattle.std.specs.declared.result.Result.{Result}
 use Rattle.std.specs.declared.result.Result.the-variants.{Ok, Err}
 use Rattle.std.proofs.shelf.Lists.{length-take, length-drop, take-all, take-take, drop-take, take-append-drop, drop-all, drop-drop, drop-append-le}
 use Rattle.std.proofs.shelf.Tests.{cond-true, cond-false, lt-ltb, le-ltb}
+use Rattle.std.proofs.shelf.Edits.{take-paste, drop-paste}
+use lib.Seq.{paste}
 use Rattle.std.proofs.shelf.Ways.{tells}
 use Rattle.units.specs.declared.refusal.Refusal.the-variants as refusals
 use Rattle.gateway.specs.declared.faults.Fault.{Fault}
@@ -86,3 +88,18 @@ past-the-end b index place past over =
     let p : whole-in b ≤ index = omega arith in
     let q : count-of b ≤ index = omega arith in
     sym (cond-false _ _ _ (le-ltb _ _ p) ∙ cond-false _ _ _ (le-ltb _ _ q))
+
+-- a part of a list, pasted over its front
+pub front-pasted : (xs x : List ℕ) (start end : ℕ) → start ≤ end → end ≤ length xs → x ≡ paste xs 0 (drop start xs) (end - start)
+    → (take (end - start) x ≡ drop start (take end xs)) × (drop (end - start) x ≡ drop (end - start) xs)
+front-pasted xs x start end h within e =
+    let n : ℕ = end - start in
+    let split-end : end ≡ start + n = omega arith in
+    let fits : n ≤ length (drop start xs) = rw length-drop (omega arith) in (
+      ap (take n) e
+          ∙ (ap (λ k. take k (paste xs 0 (drop start xs) n)) (sym (zero-add n))
+          ∙ (take-paste xs 0 (drop start xs) n (omega arith) fits ∙ sym (ap (λ k. drop start (take k xs)) (split-end) ∙ drop-take start n xs))),
+      ap (drop n) e
+          ∙ (ap (λ k. drop k (paste xs 0 (drop start xs) n)) (sym (zero-add n))
+          ∙ (drop-paste xs 0 (drop start xs) n (omega arith) fits ∙ ap (λ k. drop k xs) (zero-add n))),
+    )

@@ -1,7 +1,7 @@
 -- A file of any length, cut into frames of 32 bytes and a short rest.
 use mathlib.Core.List.{List, [], _++_}
 use mathlib.Core.Bool.{cond}
-use Prim.Native.Nat.{ℕ, zero, suc, _+_, _*_, _/_, _%_}
+use Prim.Native.Nat.{ℕ, zero, suc, _+_, _-_, _*_, _/_, _%_, min}
 use lib.Dec.{eqb, ltb}
 use lib.ListN.{length, take, drop}
 use denote.Ref.{RefT, now}
@@ -42,3 +42,10 @@ piece-of (Some (Err e)) = Some (Err e)
 abbrev pub pieces : ℕ → List ℕ → List ℕ
 pieces zero b = []
 pieces (suc n) b = pieces n b ++ cut-at b n
+
+-- how many of the first n bytes a buffer has, and where the rest of them after the last whole frame begins
+abbrev pub filled-in : ℕ → List ℕ → ℕ
+filled-in n b = min n (length b)
+
+abbrev pub rest-start : ℕ → List ℕ → ℕ
+rest-start n b = filled-in n b - filled-in n b % 32

@@ -1,7 +1,8 @@
 // Cutting a file into frames and a short rest of 1 to 31 bytes.
 ghost use mathlib.Core.Path.{_≡_};
-ghost use Prim.Native.Nat.{_^_, _<_, _≤_};
-ghost use Rattle.gateway.specs.Cuts.{whole-in, short-in, count-of, cut-at, piece-at, piece-of};
+ghost use Prim.Native.Nat.{_-_, _^_, _<_, _≤_};
+ghost use lib.ListN.{length, take, drop};
+ghost use Rattle.gateway.specs.Cuts.{whole-in, short-in, filled-in, rest-start, count-of, cut-at, piece-at, piece-of};
 ghost use Rattle.gateway.specs.Laws.{Covers, Resumes};
 use super::faults::Fault;
 use super::messages::FRAME;
@@ -62,4 +63,27 @@ pub fn piece<'a>(bytes: &'a [u8], index: usize, place: usize) -> Option<Result<&
     ensures { λ r. ⌜ piece-of r ≡ piece-at (now (bytes .entry)) index place ⌝ }
 {
     cut(bytes, index, place)
+}
+
+// Moves the bytes from `start` up to `end` to the front, and answers how many they are.
+fn move_front(buffer: &mut [u8], start: usize, end: usize) -> usize
+    requires { ⌜ start ≤ end ⌝ ∗ ⌜ end ≤ length (now buffer) ⌝ }
+    ensures value { λ r. ⌜ r ≡ end - start ⌝ }
+    ensures first { λ r. ⌜ take r (now (buffer .exit)) ≡ drop start (take end (now (buffer .entry))) ⌝ }
+    ensures rest { λ r. ⌜ drop r (now (buffer .exit)) ≡ drop r (now (buffer .entry)) ⌝ }
+{
+    buffer.copy_within(start..end, 0);
+    end - start
+}
+
+// Of the first `held` bytes of a buffer, lets go of the whole frames and moves the short rest to the front, where the next part
+// of the file can follow it. Answers how many bytes the rest has; the places behind it are as they were.
+pub fn keep_rest(buffer: &mut [u8], held: usize) -> usize
+    ensures value { λ r. ⌜ r ≡ filled-in held (now (buffer .entry)) - rest-start held (now (buffer .entry)) ⌝ }
+    ensures first { λ r. ⌜ take r (now (buffer .exit)) ≡ drop (rest-start held (now (buffer .entry))) (take (filled-in held (now (buffer .entry))) (now (buffer .entry))) ⌝ }
+    ensures rest { λ r. ⌜ drop r (now (buffer .exit)) ≡ drop r (now (buffer .entry)) ⌝ }
+    ensures short { λ r. ⌜ r < 32 ⌝ }
+{
+    let end = held.min(buffer.len());
+    move_front(buffer, end - end % FRAME, end)
 }

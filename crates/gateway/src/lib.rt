@@ -7,6 +7,7 @@ mod reading;
 mod writing;
 
 pub use cutting::count;
+pub use cutting::keep_rest;
 pub use cutting::piece;
 pub use faults::Fault;
 pub use messages::FRAME;
