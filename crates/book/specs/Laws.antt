@@ -35,4 +35,4 @@ abbrev pub sound : ℕ → Meaning → Bool
 sound most m =
     is-lot (m .lot)
     && ((leb (length (m .buys)) most && leb (length (m .sells)) most)
-        && ((all-in-range (m .lot) (m .buys) && all-in-range (m .lot) (m .sells)) && distinct (m .buys ++ m .sells)))
+    && ((all-in-range (m .lot) (m .buys) && all-in-range (m .lot) (m .sells)) && distinct (m .buys ++ m .sells)))

@@ -1,3 +1,5 @@
 pub mod Meaning
 pub mod Laws
 pub mod Places
+pub mod Making
+pub mod Kept

@@ -4,7 +4,7 @@ ghost use Prim.Native.Nat.{ℕ, _≤_};
 ghost use lib.ListN.{length};
 ghost use Rattle.book.specs.Meaning.{Meaning, side-of, at-place, take-result, after-take, enter-result, after-enter, remove-result, after-remove};
 ghost use Rattle.book.specs.Laws.{Sound};
-
+ghost use Rattle.book.specs.Making.{refusal-of};
 use units::Firm;
 use units::Lot;
 use units::Number;
@@ -12,6 +12,7 @@ use units::OpenOrders;
 use units::Orders;
 use units::Price;
 use units::Quantity;
+use units::Refusal;
 use units::Side;
 
 #[derive(Clone, Copy)]
@@ -25,6 +26,37 @@ pub struct Offer {
 // The book turned a take, an entry or a removal away, and is as it was.
 #[derive(Clone, Copy)]
 pub struct Refused;
+
+mod kept;
+mod table;
+
+pub use kept::KeptBook;
+pub use kept::calls::KeptBookBook;
+pub use kept::calls::KeptBookOpenBook;
+
+// Why a book is not made: the place it was to fill is as it was.
+#[derive(Clone, Copy)]
+pub enum MakeError {
+    // a rung's price is out of range
+    Price,
+    // the lot is out of range, or no rung can have that quantity
+    Quantity,
+    // over 64 rungs
+    Full,
+}
+
+impl MakeError {
+    // The refusal that stands for it, with its number.
+    pub fn refusal(self) -> Refusal
+        ensures { λ r. ⌜ r ≡ refusal-of self ⌝ }
+    {
+        match self {
+            MakeError::Price => Refusal::Price,
+            MakeError::Quantity => Refusal::Quantity,
+            MakeError::Full => Refusal::Full,
+        }
+    }
+}
 
 // A kind of book: everything above relies on these promises alone.
 pub trait Book {
