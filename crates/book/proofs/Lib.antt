@@ -4,3 +4,5 @@ pub mod Sublists
 pub mod Ranges
 pub mod Sound
 pub mod Lefts
+pub mod Standing
+pub mod Raising

@@ -98,14 +98,14 @@ accepts b e = simp e
 pub goes : {X : Type 0} (b : Bool) (x y z : X) → b ≡ true → z ≡ x → z ≡ cond b x y
 goes b x y z e f = simp e f
 
--- whether a take from one list is refused
-module _ (lot : ℕ) (os : List Offer) (n a i : ℕ) (p : Placed n os i) where
+-- whether a take from a list that has the number is refused
+module _ (lot : ℕ) (os : List Offer) (n a : ℕ) (p : has os n ≡ true) where
   pub takes-not : (lots lot a ≡ false) ⊎ ((lots lot a ≡ true) × (left-of os n < a)) → list-takes lot os n a ≡ false
-  takes-not (inl e) = simp (has-it p, e)
-  takes-not (inr e) = simp (has-it p, e .0, lt-leb _ _ (e .1))
+  takes-not (inl e) = simp (p, e)
+  takes-not (inr e) = simp (p, e .0, lt-leb _ _ (e .1))
 
   pub takes : lots lot a ≡ true → a ≤ left-of os n → list-takes lot os n a ≡ true
-  takes e f = simp (has-it p, e, le-leb _ _ f)
+  takes e f = simp (p, e, le-leb _ _ f)
 
 pub at-within : (os : List Offer) (k : ℕ) (d : Offer) → k < length os → Some (getD os k d) ≡ at-place os k
 at-within [] k d w = absurd (omega arith)

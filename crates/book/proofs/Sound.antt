@@ -1,5 +1,5 @@
 -- The laws of a book, as a record and as one test; takes, entries and removals keep them.
-use mathlib.Core.Path.{_≡_, refl, sym, ap, _∙_}
+use mathlib.Core.Path.{_≡_, refl, sym, ap, subst, _∙_}
 use mathlib.Core.List.{List, [], _∷_, _++_}
 use mathlib.Core.Bool.{Bool, true, false, cond, not, _&&_}
 use Prim.Native.Nat.{ℕ, _≤_, _<_}
@@ -94,3 +94,16 @@ sound-entered most m s o h t = sound-from most _ (sound-push most m s o (sound-p
 
 pub sound-without : (most : ℕ) (m : Meaning) (s : Side) (n : ℕ) → sound most m ≡ true → sound most (with-side m s (without (side-of m s) n)) ≡ true
 sound-without most m s n h = sound-sub most m s _ (sub-without (side-of m s) n) (range-without (m .lot) (side-of m s) n (sound-parts most m h .ranged s)) h
+
+same : (most : ℕ) (m : Meaning) (s : Side) → sound most m ≡ true → sound most (with-side m s (side-of m s)) ≡ true
+same most m Buy h = h
+same most m Sell h = h
+
+-- one side after a take, or after a removal, whether refused or not
+pub sound-took : (most : ℕ) (m : Meaning) (s : Side) (n a : ℕ) (os : List Offer) → sound most m ≡ true → os ≡ cond (list-takes (m .lot) (side-of m s) n a) (taken (side-of m s) n a) (side-of m s) → sound most (with-side m s os) ≡ true
+sound-took most m s n a os h e =
+    subst (λ (xs : List Offer). sound most (with-side m s xs) ≡ true) (sym e) (cond-both (list-takes (m .lot) (side-of m s) n a) _ _ (λ xs. sound most (with-side m s xs) ≡ true) (sound-taken most m s n a h) (λ _. same most m s h))
+
+pub sound-removed : (most : ℕ) (m : Meaning) (s : Side) (n : ℕ) (os : List Offer) → sound most m ≡ true → os ≡ cond (has (side-of m s) n) (without (side-of m s) n) (side-of m s) → sound most (with-side m s os) ≡ true
+sound-removed most m s n os h e =
+    subst (λ (xs : List Offer). sound most (with-side m s xs) ≡ true) (sym e) (cond-both (has (side-of m s) n) _ _ (λ xs. sound most (with-side m s xs) ≡ true) (λ _. sound-without most m s n h) (λ _. same most m s h))

@@ -28,11 +28,18 @@ pub struct Offer {
 pub struct Refused;
 
 mod kept;
+mod ladder;
+mod rail;
+mod rungs;
 mod table;
 
 pub use kept::KeptBook;
 pub use kept::calls::KeptBookBook;
 pub use kept::calls::KeptBookOpenBook;
+pub use ladder::Ladder;
+pub use ladder::calls::LadderBook;
+pub use rungs::Rungs;
+pub use rungs::Step;
 
 // Why a book is not made: the place it was to fill is as it was.
 #[derive(Clone, Copy)]

@@ -9,7 +9,7 @@ use Rattle.book.specs.declared.Offer.{Offer}
 use Rattle.book.specs.declared.table.Table.{Table}
 use Rattle.book.specs.Meaning.{list-takes, left-of}
 use Rattle.book.specs.Places.{place-from}
-use Rattle.book.proofs.Places.{Placed, placed, unplaced, refuses, stays, accepts, goes, takes-not, takes, taken-all}
+use Rattle.book.proofs.Places.{Placed, placed, unplaced, has-it, refuses, stays, accepts, goes, takes-not, takes, taken-all}
 use Rattle.book.proofs.Stored.{nothing, room, stored-within, stored-left, stored-part}
 use Rattle.book.proofs.table.Table.take.Needs as need
 
@@ -47,7 +47,7 @@ returns-then-not-whole-lots c =
     let os = take (t .count) (t .offers) in
     let l = left (c .args .self .now) (c .args .number .0) (c .in-Some .k) (c .in-Some .ensures tt) nothing in
     let f : list-takes (c .args .lot .0) os (c .args .number .0) (c .args .amount .0) ≡ false =
-    takes-not (c .args .lot .0) os (c .args .number .0) (c .args .amount .0) (c .in-Some .k) (place-of (c .args .self .now) (c .args .number .0) (c .in-Some .k) (c .in-Some .ensures tt)) (⊎-elim (λ e. inl (sym (c .whole-lots .ensures) ∙ e)) (λ e. inr (sym (c .whole-lots .ensures) ∙ e .0, omega (arith, l, e .1))) (c .then-not-whole-lots .either)) in
+    takes-not (c .args .lot .0) os (c .args .number .0) (c .args .amount .0) (has-it (place-of (c .args .self .now) (c .args .number .0) (c .in-Some .k) (c .in-Some .ensures tt))) (⊎-elim (λ e. inl (sym (c .whole-lots .ensures) ∙ e)) (λ e. inr (sym (c .whole-lots .ensures) ∙ e .0, omega (arith, l, e .1))) (c .then-not-whole-lots .either)) in
     record { result = refuses _ f; after = stays _ _ _ f }
 
 pub remove-at-requires : need.remove-at-requires
@@ -64,7 +64,7 @@ returns-then-left-amount-2 c =
     let t = c .args .self .now in
     let os = take (t .count) (t .offers) in
     let l = left (c .args .self .now) (c .args .number .0) (c .in-Some .k) (c .in-Some .ensures tt) nothing in
-    let f = takes (c .args .lot .0) os (c .args .number .0) (c .args .amount .0) (c .in-Some .k) (place-of (c .args .self .now) (c .args .number .0) (c .in-Some .k) (c .in-Some .ensures tt)) (sym (c .if-not-whole-lots .ensures tt)) (omega (arith, l, c .if-left-amount .left)) in
+    let f = takes (c .args .lot .0) os (c .args .number .0) (c .args .amount .0) (has-it (place-of (c .args .self .now) (c .args .number .0) (c .in-Some .k) (c .in-Some .ensures tt))) (sym (c .if-not-whole-lots .ensures tt)) (omega (arith, l, c .if-left-amount .left)) in
     record { result = accepts _ f; after = goes _ _ _ _ f (c .remove-at .ensures ∙ sym (taken-all (place-of (c .args .self .now) (c .args .number .0) (c .in-Some .k) (c .in-Some .ensures tt)) (c .args .amount .0) (l ∙ c .if-left-amount-2 .taken))) }
 
 pub returns-else-left-amount-2 : need.returns-else-left-amount-2
@@ -72,5 +72,5 @@ returns-else-left-amount-2 c =
     let t = c .args .self .now in
     let os = take (t .count) (t .offers) in
     let l = left (c .args .self .now) (c .args .number .0) (c .in-Some .k) (c .in-Some .ensures tt) nothing in
-    let f = takes (c .args .lot .0) os (c .args .number .0) (c .args .amount .0) (c .in-Some .k) (place-of (c .args .self .now) (c .args .number .0) (c .in-Some .k) (c .in-Some .ensures tt)) (sym (c .if-not-whole-lots .ensures tt)) (omega (arith, l, c .if-left-amount .left)) in
+    let f = takes (c .args .lot .0) os (c .args .number .0) (c .args .amount .0) (has-it (place-of (c .args .self .now) (c .args .number .0) (c .in-Some .k) (c .in-Some .ensures tt))) (sym (c .if-not-whole-lots .ensures tt)) (omega (arith, l, c .if-left-amount .left)) in
     record { result = accepts _ f; after = goes _ _ _ _ f (stored-part (t .offers) (t .count) (room t) (c .in-Some .k) (c .args .number .0) (c .args .amount .0) _ (place-of (c .args .self .now) (c .args .number .0) (c .in-Some .k) (c .in-Some .ensures tt)) (c .if-left-amount-2 .left)) }
