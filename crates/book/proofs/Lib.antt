@@ -6,3 +6,4 @@ pub mod Sound
 pub mod Lefts
 pub mod Standing
 pub mod Raising
+pub mod Joining

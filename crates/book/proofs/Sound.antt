@@ -107,3 +107,6 @@ sound-took most m s n a os h e =
 pub sound-removed : (most : ℕ) (m : Meaning) (s : Side) (n : ℕ) (os : List Offer) → sound most m ≡ true → os ≡ cond (has (side-of m s) n) (without (side-of m s) n) (side-of m s) → sound most (with-side m s os) ≡ true
 sound-removed most m s n os h e =
     subst (λ (xs : List Offer). sound most (with-side m s xs) ≡ true) (sym e) (cond-both (has (side-of m s) n) _ _ (λ xs. sound most (with-side m s xs) ≡ true) (λ _. sound-without most m s n h) (λ _. same most m s h))
+
+pub sound-after-remove : (most : ℕ) (m : Meaning) (s : Side) (n : ℕ) → sound most m ≡ true → sound most (after-remove m s n) ≡ true
+sound-after-remove most m s n h = cond-both (has (side-of m s) n) _ _ (λ z. sound most z ≡ true) (λ _. sound-without most m s n h) (λ _. h)

@@ -6,3 +6,5 @@ pub mod Places
 pub mod Kept
 pub mod Rails
 pub mod Ladders
+pub mod Joined
+pub mod Mixed

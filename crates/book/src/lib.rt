@@ -29,6 +29,7 @@ pub struct Refused;
 
 mod kept;
 mod ladder;
+mod mixed;
 mod rail;
 mod rungs;
 mod table;
@@ -38,6 +39,9 @@ pub use kept::calls::KeptBookBook;
 pub use kept::calls::KeptBookOpenBook;
 pub use ladder::Ladder;
 pub use ladder::calls::LadderBook;
+pub use mixed::MixedBook;
+pub use mixed::calls::MixedBookBook;
+pub use mixed::calls::MixedBookOpenBook;
 pub use rungs::Rungs;
 pub use rungs::Step;
 

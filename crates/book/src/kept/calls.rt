@@ -4,7 +4,8 @@ ghost use mathlib.Core.Bool.{true, false};
 ghost use Rattle.std.specs.Options.{mapped};
 ghost use Rattle.std.specs.Results.{isOk};
 ghost use Rattle.units.specs.Ranges.{is-lot};
-ghost use Rattle.book.specs.Meaning.{in-range, can-enter};
+ghost use mathlib.Core.List.{[], _∷_, _++_};
+ghost use Rattle.book.specs.Meaning.{side-of, with-side, in-range, can-enter, take-result, after-take, remove-result, after-remove};
 ghost use Rattle.book.specs.Making.{made-unless, filled-unless, kept-refused, empty-book};
 ghost use Rattle.book.specs.Kept.{kept-means};
 use super::KeptBook;
@@ -54,6 +55,37 @@ impl KeptBook {
             && (!self.buys.has(offer.number)
                 && (!self.sells.has(offer.number) && in_range(self.lot, offer)))
     }
+
+    fn store(&mut self, side: Side, offer: Offer)
+        requires { ⌜ can-enter 128 (kept-means (now self)) side offer ≡ true ⌝ }
+        ensures { λ _. ⌜ kept-means (now (self .exit)) ≡ with-side (kept-means (now (self .entry))) side (side-of (kept-means (now (self .entry))) side ++ offer ∷ []) ⌝ }
+    {
+        match side {
+            Side::Buy => self.buys.push(offer),
+            Side::Sell => self.sells.push(offer),
+        }
+    }
+
+    fn take_offer(&mut self, side: Side, number: Number, amount: Quantity) -> Result<(), Refused>
+        ensures result { λ r. ⌜ r ≡ take-result (kept-means (now (self .entry))) side (number .0) (amount .0) ⌝ }
+        ensures after { λ _. ⌜ kept-means (now (self .exit)) ≡ after-take (kept-means (now (self .entry))) side (number .0) (amount .0) ⌝ }
+    {
+        let lot = self.lot;
+        match side {
+            Side::Buy => self.buys.take(lot, number, amount),
+            Side::Sell => self.sells.take(lot, number, amount),
+        }
+    }
+
+    fn remove_offer(&mut self, side: Side, number: Number) -> Result<(), Refused>
+        ensures result { λ r. ⌜ r ≡ remove-result (kept-means (now (self .entry))) side (number .0) ⌝ }
+        ensures after { λ _. ⌜ kept-means (now (self .exit)) ≡ after-remove (kept-means (now (self .entry))) side (number .0) ⌝ }
+    {
+        match side {
+            Side::Buy => self.buys.remove(number),
+            Side::Sell => self.sells.remove(number),
+        }
+    }
 }
 
 fn in_range(lot: Lot, offer: Offer) -> bool
@@ -94,11 +126,7 @@ pub impl Book for KeptBook as KeptBookBook {
     }
 
     fn take(&mut self, side: Side, number: Number, amount: Quantity) -> Result<(), Refused> {
-        let lot = self.lot;
-        match side {
-            Side::Buy => self.buys.take(lot, number, amount),
-            Side::Sell => self.sells.take(lot, number, amount),
-        }
+        self.take_offer(side, number, amount)
     }
 }
 
@@ -107,17 +135,11 @@ pub impl OpenBook for KeptBook as KeptBookOpenBook {
         if !self.admits(side, offer) {
             return Err(Refused);
         }
-        match side {
-            Side::Buy => self.buys.push(offer),
-            Side::Sell => self.sells.push(offer),
-        }
+        self.store(side, offer);
         Ok(())
     }
 
     fn remove(&mut self, side: Side, number: Number) -> Result<(), Refused> {
-        match side {
-            Side::Buy => self.buys.remove(number),
-            Side::Sell => self.sells.remove(number),
-        }
+        self.remove_offer(side, number)
     }
 }
