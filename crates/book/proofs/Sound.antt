@@ -110,3 +110,9 @@ sound-removed most m s n os h e =
 
 pub sound-after-remove : (most : ℕ) (m : Meaning) (s : Side) (n : ℕ) → sound most m ≡ true → sound most (after-remove m s n) ≡ true
 sound-after-remove most m s n h = cond-both (has (side-of m s) n) _ _ (λ z. sound most z ≡ true) (λ _. sound-without most m s n h) (λ _. h)
+
+-- a kind that allows more offers a side
+pub sound-wider : (few more : ℕ) (m : Meaning) → few ≤ more → sound few m ≡ true → sound more m ≡ true
+sound-wider few more m w h =
+    let p = sound-parts few m h in
+    sound-from more m (record { lot = p .lot; few = λ s. omega (arith, p .few s); ranged = p .ranged; apart = p .apart })

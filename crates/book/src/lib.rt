@@ -2,7 +2,7 @@
 ghost use mathlib.Core.Path.{_≡_};
 ghost use Prim.Native.Nat.{ℕ, _≤_};
 ghost use lib.ListN.{length};
-ghost use Rattle.book.specs.Meaning.{Meaning, side-of, at-place, take-result, after-take, enter-result, after-enter, remove-result, after-remove};
+ghost use Rattle.book.specs.Meaning.{Meaning, lots, side-of, at-place, take-result, after-take, enter-result, after-enter, remove-result, after-remove};
 ghost use Rattle.book.specs.Laws.{Sound};
 ghost use Rattle.book.specs.Making.{refusal-of};
 use units::Firm;
@@ -27,24 +27,6 @@ pub struct Offer {
 #[derive(Clone, Copy)]
 pub struct Refused;
 
-mod kept;
-mod ladder;
-mod mixed;
-mod rail;
-mod rungs;
-mod table;
-
-pub use kept::KeptBook;
-pub use kept::calls::KeptBookBook;
-pub use kept::calls::KeptBookOpenBook;
-pub use ladder::Ladder;
-pub use ladder::calls::LadderBook;
-pub use mixed::MixedBook;
-pub use mixed::calls::MixedBookBook;
-pub use mixed::calls::MixedBookOpenBook;
-pub use rungs::Rungs;
-pub use rungs::Step;
-
 // Why a book is not made: the place it was to fill is as it was.
 #[derive(Clone, Copy)]
 pub enum MakeError {
@@ -67,6 +49,13 @@ impl MakeError {
             MakeError::Full => Refusal::Full,
         }
     }
+}
+
+// Whether an amount is whole lots, at least one.
+pub fn whole_lots(lot: Lot, amount: Quantity) -> bool
+    ensures { λ r. ⌜ r ≡ lots (lot .0) (amount .0) ⌝ }
+{
+    0 < amount.0 && lot.divides(amount)
 }
 
 // A kind of book: everything above relies on these promises alone.

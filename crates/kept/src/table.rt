@@ -1,0 +1,17 @@
+// The stored offers of one side, in the order of their entry: the first places of an array, so that no call allocates.
+ghost use mathlib.Core.Path.{_≡_};
+ghost use Prim.Native.Nat.{_≤_};
+ghost use lib.ListN.{length};
+use book::Offer;
+
+mod calls;
+
+pub(crate) const ROOM: usize = 128;
+
+#[derive(Clone, Copy)]
+pub(crate) struct Table {
+    offers: [Offer; 128],
+    count: usize,
+    ghost places: { length offers ≡ 128 },
+    ghost few: { count ≤ 128 },
+}
