@@ -3,3 +3,4 @@ pub mod Sublists
 pub mod Ranges
 pub mod Sound
 pub mod Lefts
+pub mod Telling

@@ -2,8 +2,9 @@
 ghost use mathlib.Core.Path.{_≡_};
 ghost use Prim.Native.Nat.{ℕ, _≤_};
 ghost use lib.ListN.{length};
-ghost use Rattle.book.specs.Meaning.{Meaning, lots, side-of, at-place, take-result, after-take, enter-result, after-enter, remove-result, after-remove};
+ghost use Rattle.book.specs.Meaning.{Meaning, in-range, lots, side-of, at-place, take-result, after-take, enter-result, after-enter, remove-result, after-remove};
 ghost use Rattle.book.specs.Laws.{Sound};
+ghost use Rattle.book.specs.Words.{Takes-in-words, Removals-in-words};
 ghost use Rattle.book.specs.Making.{refusal-of};
 use units::Firm;
 use units::Lot;
@@ -15,12 +16,24 @@ use units::Quantity;
 use units::Refusal;
 use units::Side;
 
+// The most offers a side that any kind of book may name.
+pub const MOST_A_SIDE: usize = 128;
+
 #[derive(Clone, Copy)]
 pub struct Offer {
     pub number: Number,
     pub firm: Firm,
     pub price: Price,
     pub left: Quantity,
+}
+
+impl Offer {
+    // In range, the firm by its type, and what is left a quantity of the lot.
+    pub fn in_range(self, lot: Lot) -> bool
+        ensures { λ r. ⌜ r ≡ in-range (lot .0) self ⌝ }
+    {
+        self.number.in_range() && (self.price.in_range() && self.left.in_range(lot))
+    }
 }
 
 // The book turned a take, an entry or a removal away, and is as it was.
@@ -74,6 +87,8 @@ pub trait Book {
 
     law lawful: { (b : Self) → Sound most (means b) };
 
+    law takes: { Takes-in-words };
+
     // The most offers of a side, as a call whose contract says its value.
     fn limit() -> usize
         ensures { λ r. ⌜ r ≡ most ⌝ };
@@ -95,6 +110,8 @@ pub trait Book {
 
 // A book that also takes new orders.
 pub trait OpenBook: Book<Orders = OpenOrders> {
+    law removals: { Removals-in-words };
+
     fn enter(&mut self, side: Side, offer: Offer) -> Result<(), Refused>
         ensures result { λ r. ⌜ r ≡ enter-result (Self·Book .most) (Self·Book .means (now (self .entry))) side offer ⌝ }
         ensures after { λ _. ⌜ Self·Book .means (now (self .exit)) ≡ after-enter (Self·Book .most) (Self·Book .means (now (self .entry))) side offer ⌝ };

@@ -5,13 +5,13 @@ ghost use Rattle.std.specs.Options.{mapped};
 ghost use Rattle.std.specs.Results.{isOk};
 ghost use Rattle.units.specs.Ranges.{is-lot};
 ghost use mathlib.Core.List.{[], _∷_, _++_};
-ghost use Rattle.book.specs.Meaning.{side-of, with-side, in-range, can-enter, take-result, after-take, remove-result, after-remove};
+ghost use Rattle.book.specs.Meaning.{side-of, with-side, can-enter, take-result, after-take, remove-result, after-remove};
 ghost use Rattle.book.specs.Making.{made-unless, filled-unless, made-as, result-means};
 ghost use Rattle.kept.specs.Kept.{kept-means, kept-refused, empty-book};
 use crate::KeptBook;
-use crate::table::ROOM;
 use crate::table::Table;
 use book::Book;
+use book::MOST_A_SIDE;
 use book::MakeError;
 use book::Offer;
 use book::OpenBook;
@@ -62,9 +62,9 @@ impl KeptBook {
     fn admits(&self, side: Side, offer: Offer) -> bool
         ensures { λ r. ⌜ r ≡ can-enter 128 (kept-means (now (self .entry))) side offer ⌝ }
     {
-        self.count(side) < ROOM
+        self.count(side) < MOST_A_SIDE
             && (!self.buys.has(offer.number)
-                && (!self.sells.has(offer.number) && in_range(self.lot, offer)))
+                && (!self.sells.has(offer.number) && offer.in_range(self.lot)))
     }
 
     fn store(&mut self, side: Side, offer: Offer)
@@ -99,16 +99,10 @@ impl KeptBook {
     }
 }
 
-fn in_range(lot: Lot, offer: Offer) -> bool
-    ensures { λ r. ⌜ r ≡ in-range (lot .0) offer ⌝ }
-{
-    offer.number.in_range() && (offer.price.in_range() && offer.left.in_range(lot))
-}
-
 pub impl Book for KeptBook as KeptBookBook {
     type Orders = OpenOrders;
 
-    const MOST: usize = ROOM;
+    const MOST: usize = MOST_A_SIDE;
 
     ghost means = { kept-means };
 

@@ -2,15 +2,14 @@
 ghost use mathlib.Core.Path.{_≡_};
 ghost use Prim.Native.Nat.{_≤_};
 ghost use lib.ListN.{length};
+use book::MOST_A_SIDE;
 use book::Offer;
 
 mod calls;
 
-pub(crate) const ROOM: usize = 128;
-
 #[derive(Clone, Copy)]
 pub(crate) struct Table {
-    offers: [Offer; 128],
+    offers: [Offer; MOST_A_SIDE],
     count: usize,
     ghost places: { length offers ≡ 128 },
     ghost few: { count ≤ 128 },

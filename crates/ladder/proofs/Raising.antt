@@ -1,24 +1,22 @@
 -- A ladder as it is made: the ends of a side decide its prices, and its rungs are offers in range with numbers apart.
 use mathlib.Core.Path.{_≡_, refl, sym, ap, subst, _∙_}
 use mathlib.Core.List.{List, [], _∷_, _++_, map}
-use mathlib.Core.Bool.{Bool, true, false, cond, not, _&&_, _||_}
-use mathlib.Core.Logic.{_⊎_, inl, inr, ⊎-elim}
+use mathlib.Core.Bool.{Bool, true, false, cond, not, _&&_}
+use mathlib.Core.Logic.{_⊎_, ⊎-elim}
 use Prim.Native.Nat.{ℕ, zero, suc, _+_, _-_, _*_, _≤_, _<_}
 use native.Mathlib.Nat.{mul-le-mul-right}
 use native.Mathlib.Omega.{arith}
 use lib.Dec.{eqb, leb}
 use lib.ListN.{length, drop, replicate}
 use Rattle.std.specs.Iters.{counting}
-use Rattle.std.specs.declared.option.Option.{Option}
 use Rattle.std.specs.declared.option.Option.the-variants.{Some, None}
 use Rattle.std.proofs.shelf.Counted.{length-map-counting}
 use Rattle.std.proofs.shelf.Lists.{append-nil, drop-replicate, length-append, length-replicate}
-use Rattle.std.proofs.shelf.Tests.{ne-eqb, eqb-true, le-leb, leb-true, and-parts, and-from, and-left, and-right, or-cases, or-from, not-from-false, both-ways, cases-bool, cases-lt, cond-false}
+use Rattle.std.proofs.shelf.Tests.{ne-eqb, eqb-true, leb-true, and-parts, and-from, and-left, or-cases, or-from, not-from-false, both-ways, cases-bool, cases-lt, cond-false}
 use Rattle.units.specs.Ranges.{is-price, is-quantity, is-lot, within}
 use Rattle.units.specs.declared.side.Side.{Side}
 use Rattle.units.specs.declared.side.Side.the-variants.{Buy, Sell}
 use Rattle.book.specs.declared.Offer.{Offer}
-use Rattle.book.specs.declared.MakeError.{MakeError}
 use Rattle.book.specs.declared.MakeError.the-variants.{Price, Quantity, Full}
 use Rattle.ladder.specs.declared.rungs.Rungs.{Rungs}
 use Rattle.book.specs.Meaning.{has}

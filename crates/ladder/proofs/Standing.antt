@@ -1,18 +1,17 @@
 -- The offers of a ladder's side: which numbers it has, what is left of each, and what a lowered rung does.
 use mathlib.Core.Path.{_≡_, refl, sym, ap, subst, _∙_}
 use mathlib.Core.List.{List, [], _∷_}
-use mathlib.Core.Bool.{Bool, true, false, cond, _||_, _&&_}
+use mathlib.Core.Bool.{Bool, true, false, cond}
 use Prim.Native.Nat.{ℕ, zero, suc, _+_, _-_, _≤_, _<_}
 use native.Mathlib.Omega.{arith}
 use lib.Dec.{eqb}
 use lib.ListN.{length, getD, set, drop}
-use Rattle.std.specs.declared.option.Option.{Option}
 use Rattle.std.specs.declared.option.Option.the-variants.{Some, None}
 use Rattle.std.proofs.shelf.Lists.{drop-more, drop-all}
-use Rattle.std.proofs.shelf.Tests.{eq-eqb, ne-eqb, eqb-true, eqb-false, cond-both, cond-true, cond-false, or-from, or-left, or-right, and-parts, le-leb, leb-true}
+use Rattle.std.proofs.shelf.Tests.{eq-eqb, ne-eqb, eqb-true, eqb-false, cond-both, cond-true, cond-false, or-from, or-left, or-right, and-parts}
 use Rattle.units.specs.declared.side.Side.{Side}
 use Rattle.book.specs.declared.Offer.{Offer}
-use Rattle.book.specs.Meaning.{has, left-of, taken, without, numbered, at-place, less, in-range}
+use Rattle.book.specs.Meaning.{has, left-of, taken, numbered, at-place, less, in-range}
 use Rattle.book.specs.Laws.{all-in-range}
 use Rattle.ladder.specs.Rungs.{first-number, rung-price, rung, standing}
 use Rattle.book.proofs.Ranges.{range-parts, within-parts}

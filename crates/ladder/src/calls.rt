@@ -10,6 +10,7 @@ ghost use Rattle.ladder.specs.Rungs.{ladder-refused, ladder-of, Ends-decide};
 ghost use Rattle.ladder.specs.Ladders.{ladder-means};
 use crate::Ladder;
 use crate::rail::Rail;
+use crate::rungs::MOST_RUNGS;
 use crate::rungs::Rungs;
 use book::Book;
 use book::MakeError;
@@ -113,7 +114,7 @@ impl Ladder {
 pub impl Book for Ladder as LadderBook {
     type Orders = NoOrders;
 
-    const MOST: usize = 64;
+    const MOST: usize = MOST_RUNGS;
 
     ghost means = { ladder-means };
 

@@ -11,6 +11,9 @@ use units::Price;
 use units::Quantity;
 use units::Side;
 
+// The most rungs a side.
+pub(crate) const MOST_RUNGS: usize = 64;
+
 // Price units from one rung to the next; 0 puts all rungs at one price.
 #[derive(Clone, Copy)]
 pub struct Step(pub u32);
@@ -57,6 +60,6 @@ impl Rungs {
     pub(crate) fn are_few(self) -> bool
         ensures { λ r. ⌜ r ≡ leb (self .count) 64 ⌝ }
     {
-        self.count <= 64
+        self.count as usize <= MOST_RUNGS
     }
 }

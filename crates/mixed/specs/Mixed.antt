@@ -1,5 +1,4 @@
 -- What a mixed book means: on each side the standing rungs of a ladder, and the stored orders behind them.
-use mathlib.Core.List.{_++_}
 use Rattle.mixed.specs.declared.MixedBook.{MixedBook}
 use Rattle.book.specs.Meaning.{Meaning}
 use Rattle.mixed.specs.Joined.{joined}

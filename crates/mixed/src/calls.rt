@@ -11,6 +11,7 @@ ghost use Rattle.ladder.specs.Rungs.{ladder-refused, ladder-of, Ends-decide};
 ghost use Rattle.mixed.specs.Mixed.{mixed-means};
 use crate::MixedBook;
 use book::Book;
+use book::MOST_A_SIDE;
 use book::MakeError;
 use book::Offer;
 use book::OpenBook;
@@ -105,7 +106,7 @@ impl MixedBook {
         ensures result { λ r. ⌜ r ≡ enter-result 128 (mixed-means (now (self .entry))) side offer ⌝ }
         ensures after { λ _. ⌜ mixed-means (now (self .exit)) ≡ after-enter 128 (mixed-means (now (self .entry))) side offer ⌝ }
     {
-        if self.offers(side) >= 128 {
+        if self.offers(side) >= MOST_A_SIDE {
             return Err(Refused);
         }
         if self.rungs.has(offer.number) {
@@ -129,7 +130,7 @@ impl MixedBook {
 pub impl Book for MixedBook as MixedBookBook {
     type Orders = OpenOrders;
 
-    const MOST: usize = 128;
+    const MOST: usize = MOST_A_SIDE;
 
     ghost means = { mixed-means };
 

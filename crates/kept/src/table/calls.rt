@@ -10,6 +10,7 @@ ghost use Rattle.book.specs.Meaning.{at-place, list-takes, taken, when, has, wi
 ghost use Rattle.kept.specs.Places.{place-from};
 ghost use Rattle.kept.specs.Tables.{stored};
 use super::Table;
+use book::MOST_A_SIDE;
 use book::Offer;
 use book::Refused;
 use book::whole_lots;
@@ -34,7 +35,7 @@ fn empties(amount: Quantity, left: u32) -> bool
 }
 
 // Moves the offers behind a place one place to the front, over the one that stands there.
-fn close_gap(offers: &mut [Offer; 128], place: usize, count: usize)
+fn close_gap(offers: &mut [Offer; MOST_A_SIDE], place: usize, count: usize)
     requires within { ⌜ place < count ⌝ }
     requires few { ⌜ count ≤ 128 ⌝ }
     ensures places { λ _. ⌜ length (now (offers .exit)) ≡ 128 ⌝ }
@@ -50,7 +51,7 @@ impl Table {
         ensures { λ r. ⌜ stored r ≡ [] ⌝ }
     {
         Table {
-            offers: [NOTHING; 128],
+            offers: [NOTHING; MOST_A_SIDE],
             count: 0,
         }
     }

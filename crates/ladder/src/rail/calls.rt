@@ -2,13 +2,14 @@
 ghost use mathlib.Core.Path.{_≡_};
 ghost use mathlib.Core.List.{_++_};
 ghost use mathlib.Core.Bool.{true, false, cond};
-ghost use Prim.Native.Nat.{ℕ, _+_, _-_, _^_, _≤_, _<_};
+ghost use Prim.Native.Nat.{_+_, _-_, _≤_, _<_};
 ghost use lib.ListN.{length, getD, drop, replicate};
 ghost use Rattle.std.specs.Options.{Cases};
 ghost use Rattle.book.specs.Meaning.{at-place, has, left-of, list-takes, taken, when};
 ghost use Rattle.ladder.specs.Rungs.{first-number, rung-price, rung, rungs-of, prices-in-range, quantity-in-range};
 ghost use Rattle.ladder.specs.Rails.{rail-offers};
 use super::Rail;
+use crate::rungs::MOST_RUNGS;
 use crate::rungs::Rungs;
 use crate::rungs::Step;
 use book::Offer;
@@ -50,11 +51,11 @@ fn rung_of(side: Side, first: Price, step: Step, k: usize, left: u32) -> Offer
 }
 
 // The same quantity on each of the first rungs, nothing on the others.
-fn filled(count: usize, quantity: u32) -> [u32; 64]
+fn filled(count: usize, quantity: u32) -> [u32; MOST_RUNGS]
     requires { ⌜ count ≤ 64 ⌝ }
     ensures { λ r. ⌜ r ≡ replicate count quantity ++ drop count (replicate 64 0) ⌝ }
 {
-    let mut left = [0; 64];
+    let mut left = [0; MOST_RUNGS];
     for k in 0..count {
         left[k] = quantity;
     }
@@ -81,7 +82,7 @@ impl Rail {
         ensures { λ r. ⌜ r ≡ length (rail-offers (now (self .entry))) ⌝ }
     {
         let mut n = 0;
-        for k in 0..64 {
+        for k in 0..MOST_RUNGS {
             if self.left[k] != 0 {
                 n += 1;
             }
@@ -93,7 +94,7 @@ impl Rail {
         ensures { λ r. ⌜ r ≡ at-place (rail-offers (now (self .entry))) place ⌝ }
     {
         let mut skip = place;
-        for k in 0..64 {
+        for k in 0..MOST_RUNGS {
             let left = self.left[k];
             if left != 0 {
                 if skip == 0 {
@@ -110,7 +111,7 @@ impl Rail {
         ensures { λ r. ⌜ Cases r (has (rail-offers (now (self .entry))) (number .0) ≡ false) (λ k. (k < 64) × (first-number (now (self .entry) .side) + k ≡ number .0) × (0 < getD (now (self .entry) .left) k 0)) ⌝ }
     {
         let base = first_number(self.side);
-        if number.0 < base || number.0 - base >= 64 {
+        if number.0 < base || (number.0 - base) as usize >= MOST_RUNGS {
             return None;
         }
         let k = (number.0 - base) as usize;

@@ -1,7 +1,6 @@
-use mathlib.Core.Path.{_≡_, sym, ap, _∙_}
+use mathlib.Core.Path.{ap, _∙_}
 use mathlib.Core.List.{List}
-use mathlib.Core.Bool.{true}
-use Rattle.units.specs.declared.side.Side.the-variants.{Buy, Sell}
+use Rattle.units.specs.declared.side.Side.the-variants.{Buy}
 use Rattle.book.specs.declared.Offer.{Offer}
 use Rattle.book.specs.Meaning.{meaning-of}
 use Rattle.book.specs.Laws.{sound}

@@ -1,4 +1,3 @@
-use mathlib.Core.Path.{_≡_, sym, ap, _∙_}
 use native.Mathlib.Omega.{arith}
 use Rattle.kept.specs.Kept.{kept-means}
 use Rattle.ladder.specs.Ladders.{ladder-means}

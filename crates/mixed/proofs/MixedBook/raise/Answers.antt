@@ -1,10 +1,8 @@
 use mathlib.Core.Path.{_≡_, sym, ap, _∙_}
-use Prim.Native.Nat.{_≤_}
 use native.Mathlib.Omega.{arith}
 use Rattle.std.specs.declared.result.Result.the-variants.{Ok}
 use Rattle.book.specs.Meaning.{Meaning}
 use Rattle.book.specs.Laws.{sound}
-use Rattle.book.specs.Making.{made-as}
 use Rattle.book.proofs.Answers.{made-ok, made-err}
 use Rattle.book.proofs.Sound.{sound-wider}
 use Rattle.kept.specs.Kept.{kept-means, kept-refused, empty-book}

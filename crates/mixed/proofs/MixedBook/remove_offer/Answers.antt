@@ -1,5 +1,5 @@
 use mathlib.Core.Path.{_≡_, sym, ap, _∙_}
-use mathlib.Core.Bool.{Bool, true, false}
+use mathlib.Core.Bool.{true, false}
 use Prim.Native.Nat.{ℕ}
 use Rattle.units.specs.declared.side.Side.{Side}
 use Rattle.book.specs.Meaning.{Meaning, when, has, side-of, left-of, can-take, after-take, after-remove}

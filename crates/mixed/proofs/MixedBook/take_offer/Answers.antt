@@ -1,5 +1,5 @@
-use mathlib.Core.Path.{_≡_, sym, ap, _∙_}
-use mathlib.Core.Bool.{Bool, true, false}
+use mathlib.Core.Path.{sym, ap, _∙_}
+use mathlib.Core.Bool.{true, false}
 use Rattle.book.specs.Meaning.{Meaning, when, can-take}
 use Rattle.book.specs.Laws.{sound}
 use Rattle.mixed.specs.Joined.{joined}

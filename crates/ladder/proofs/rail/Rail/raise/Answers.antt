@@ -1,9 +1,7 @@
-use mathlib.Core.Path.{_≡_, sym, ap, _∙_}
-use mathlib.Core.List.{List}
+use mathlib.Core.Path.{_≡_, ap, _∙_}
 use mathlib.Core.Bool.{true}
-use Rattle.book.specs.declared.Offer.{Offer}
 use Rattle.book.specs.Laws.{all-in-range}
-use Rattle.ladder.specs.Rungs.{standing, rungs-of}
+use Rattle.ladder.specs.Rungs.{standing}
 use Rattle.ladder.proofs.Raising.{raised-side, raised-places, side-ranged}
 use Rattle.ladder.proofs.Standing.{prices-fit}
 use Rattle.ladder.proofs.rail.Rail.raise.Needs as need
