@@ -13,7 +13,7 @@ mod table;
 pub use calls::KeptBookBook;
 pub use calls::KeptBookOpenBook;
 
-#[derive(Clone, Copy)]
+#[derive(Drop)]
 pub struct KeptBook {
     lot: Lot,
     buys: Table,

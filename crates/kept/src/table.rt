@@ -7,7 +7,7 @@ use book::Offer;
 
 mod calls;
 
-#[derive(Clone, Copy)]
+#[derive(Drop)]
 pub(crate) struct Table {
     offers: [Offer; MOST_A_SIDE],
     count: usize,

@@ -15,7 +15,7 @@ pub use calls::LadderBook;
 pub use rungs::Rungs;
 pub use rungs::Step;
 
-#[derive(Clone, Copy)]
+#[derive(Drop)]
 pub struct Ladder {
     lot: Lot,
     buys: Rail,

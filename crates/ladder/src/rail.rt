@@ -10,7 +10,7 @@ use units::Side;
 
 mod calls;
 
-#[derive(Clone, Copy)]
+#[derive(Drop)]
 pub(crate) struct Rail {
     side: Side,
     first: Price,

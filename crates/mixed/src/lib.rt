@@ -13,7 +13,7 @@ mod calls;
 pub use calls::MixedBookBook;
 pub use calls::MixedBookOpenBook;
 
-#[derive(Clone, Copy)]
+#[derive(Drop)]
 pub struct MixedBook {
     rungs: Ladder,
     orders: KeptBook,
