@@ -45,7 +45,7 @@ pub struct Refused;
 pub enum MakeError {
     // a rung's price is out of range
     Price,
-    // the lot is out of range, or no rung can have that quantity
+    // the lot is out of range, or the rungs' quantity is none of that lot
     Quantity,
     // over 64 rungs
     Full,
@@ -64,7 +64,7 @@ impl MakeError {
     }
 }
 
-// Whether an amount is whole lots, at least one.
+// Whether an amount is whole lots, at least one: what a take may ask for.
 pub fn whole_lots(lot: Lot, amount: Quantity) -> bool
     ensures { λ r. ⌜ r ≡ lots (lot .0) (amount .0) ⌝ }
 {
@@ -79,6 +79,7 @@ pub trait Book {
     // The most offers of a side.
     const MOST: usize;
 
+    // The offers to buy, the offers to sell and the lot.
     ghost means: { Self → Meaning };
 
     ghost most: { ℕ };
@@ -103,6 +104,7 @@ pub trait Book {
     fn offer(&self, side: Side, place: usize) -> Option<Offer>
         ensures { λ r. ⌜ r ≡ at-place (side-of (means (now (self .entry))) side) place ⌝ };
 
+    // Takes an amount from the offer of the number, or is refused and changes nothing.
     fn take(&mut self, side: Side, number: Number, amount: Quantity) -> Result<(), Refused>
         ensures result { λ r. ⌜ r ≡ take-result (means (now (self .entry))) side (number .0) (amount .0) ⌝ }
         ensures after { λ _. ⌜ means (now (self .exit)) ≡ after-take (means (now (self .entry))) side (number .0) (amount .0) ⌝ };
@@ -112,10 +114,12 @@ pub trait Book {
 pub trait OpenBook: Book<Orders = OpenOrders> {
     law removals: { Removals-in-words };
 
+    // Puts an offer at the end of its side, or is refused and changes nothing.
     fn enter(&mut self, side: Side, offer: Offer) -> Result<(), Refused>
         ensures result { λ r. ⌜ r ≡ enter-result (Self·Book .most) (Self·Book .means (now (self .entry))) side offer ⌝ }
         ensures after { λ _. ⌜ Self·Book .means (now (self .exit)) ≡ after-enter (Self·Book .most) (Self·Book .means (now (self .entry))) side offer ⌝ };
 
+    // Removes the offer of the number, or is refused and changes nothing.
     fn remove(&mut self, side: Side, number: Number) -> Result<(), Refused>
         ensures result { λ r. ⌜ r ≡ remove-result (Self·Book .means (now (self .entry))) side (number .0) ⌝ }
         ensures after { λ _. ⌜ Self·Book .means (now (self .exit)) ≡ after-remove (Self·Book .means (now (self .entry))) side (number .0) ⌝ };

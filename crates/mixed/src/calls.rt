@@ -92,6 +92,7 @@ impl MixedBook {
         }
     }
 
+    // Numbers are apart, so what the rungs refuse of a number of theirs, the orders do not have.
     fn take_offer(&mut self, side: Side, number: Number, amount: Quantity) -> Result<(), Refused>
         ensures result { λ r. ⌜ r ≡ take-result (mixed-means (now (self .entry))) side (number .0) (amount .0) ⌝ }
         ensures after { λ _. ⌜ mixed-means (now (self .exit)) ≡ after-take (mixed-means (now (self .entry))) side (number .0) (amount .0) ⌝ }
@@ -115,6 +116,7 @@ impl MixedBook {
         self.orders.enter(side, offer)
     }
 
+    // A rung is removed by taking all that is left of it: a ladder itself removes nothing.
     fn remove_offer(&mut self, side: Side, number: Number) -> Result<(), Refused>
         ensures result { λ r. ⌜ r ≡ remove-result (mixed-means (now (self .entry))) side (number .0) ⌝ }
         ensures after { λ _. ⌜ mixed-means (now (self .exit)) ≡ after-remove (mixed-means (now (self .entry))) side (number .0) ⌝ }

@@ -20,6 +20,7 @@ use units::Number;
 use units::Price;
 use units::Quantity;
 
+// What an unused place holds.
 const NOTHING: Offer = Offer {
     number: Number(0),
     firm: Firm(0),
@@ -72,6 +73,7 @@ impl Table {
         }
     }
 
+    // Where the offer of the number stands.
     fn place(&self, number: Number) -> Option<usize>
         ensures { λ r. ⌜ r ≡ place-from 0 (stored (now (self .entry))) (number .0) ⌝ }
     {
