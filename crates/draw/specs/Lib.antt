@@ -1,0 +1,5 @@
+pub mod Sides
+pub mod Offers
+pub mod Rankings
+pub mod Draws
+pub mod Walk

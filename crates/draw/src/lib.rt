@@ -1,0 +1,17 @@
+// What a request may draw on, in which order, and the draw that trades.
+mod offers;
+mod rankings;
+
+pub use offers::admit;
+pub use offers::Eligible;
+pub use offers::EligibleNamed;
+pub use offers::Offered;
+pub use offers::Source;
+pub use offers::Taker;
+pub use rankings::OfferRanking;
+pub use rankings::RequestRanking;
+pub use rankings::RequestRankingByPrice;
+pub use rankings::RequestRankingOffers;
+pub use rankings::TradingRanking;
+pub use rankings::TradingRankingByPrice;
+pub use rankings::TradingRankingOffers;
