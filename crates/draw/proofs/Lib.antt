@@ -1,1 +1,7 @@
 pub mod Orders
+pub mod Sides
+pub mod Bounds
+pub mod Cost
+pub mod Reaching
+pub mod Steps
+pub mod Finds

@@ -1,6 +1,7 @@
 // What a request may draw on, in which order, and the draw that trades.
 mod offers;
 mod rankings;
+mod walk;
 
 pub use offers::admit;
 pub use offers::Eligible;
