@@ -77,12 +77,16 @@ cost-step s p (o ∷ os) m e a h =
   where
     l : ℕ
     l = o .left .0
+
     q : ℕ
     q = o .price .0
+
     e₁ : ℕ
     e₁ = min (m + e) l - min m l
+
     e₂ : ℕ
     e₂ = ((m + e) - l) - (m - l)
+
     glue : (s : Side) (x c u v w d x′ d′ pe : ℕ) → pe ≡ u + v → x′ ≡ x + w → d′ ≡ d → NoWorse s (c + v) d → NoWorse s u w → NoWorse s ((x + c) + pe) (x′ + d′)
     glue Buy x c u v w d x′ d′ pe i j k h g = omega arith
     glue Sell x c u v w d x′ d′ pe i j k h g = omega arith
@@ -97,27 +101,33 @@ least-cost s (o ∷ os) x f a = rw (sumBy-cons, sumBy-cons) (within (least-cost 
   where
     l : ℕ
     l = o .left .0
+
     q : ℕ
     q = o .price .0
+
     y : ℕ
     y = x (named o)
+
     n : ℕ
     n = y + size os x
+
     e : ℕ
     e = min n l - y
+
     glue : (s : Side) (c c′ d u w qy qe : ℕ) → u ≡ qy + qe → c′ ≡ d → NoWorse s (c + qe) c′ → NoWorse s d w → NoWorse s (u + c) (qy + w)
     glue Buy c c′ d u w qy qe i j h k = omega arith
     glue Sell c c′ d u w qy qe i j h k = omega arith
+
     within : (size os x ≤ held os) × NoWorse s (cost os (size os x)) (money os x) →
         (n ≤ l + held os) × NoWorse s (q * min n l + cost os (n - l)) (q * y + money os x)
     within ih =
-        let below : y ≤ l = a .0 in
-        ( omega (arith, ih .0)
-        , glue s (cost os (n - l)) (cost os ((n - l) + e)) (cost os (size os x)) (q * min n l) (money os x) (q * y) (q * e)
-          (ap (λ v. q * v) (let z : min n l ≡ y + e = omega arith in z) ∙ mul-add q y e)
-          (ap (cost os) (let z : (n - l) + e ≡ size os x = omega arith in z))
-          (cost-step s q os (n - l) e (f .0) (omega (arith, ih .0)))
-          (ih .1)
+        let below : y ≤ l = a .0 in (
+          omega (arith, ih .0),
+          glue s (cost os (n - l)) (cost os ((n - l) + e)) (cost os (size os x)) (q * min n l) (money os x) (q * y) (q * e)
+              (ap (λ v. q * v) (let z : min n l ≡ y + e = omega arith in z) ∙ mul-add q y e)
+              (ap (cost os) (let z : (n - l) + e ≡ size os x = omega arith in z))
+              (cost-step s q os (n - l) e (f .0) (omega (arith, ih .0)))
+              (ih .1),
         )
 
 -- ── what the draw that empties the offers in their order takes ──
@@ -144,19 +154,19 @@ poured-totals [] n a = (omega arith, refl)
 poured-totals (o ∷ os) n a =
     let ih = poured-totals os (n - o .left .0) (a .1) in
     let first = poured-first o os n in
-    let later = poured-later o os n a in
-    ( rw (sumBy-cons, sumBy-same _ _ os later) (omega (arith, first, ih .0))
-    , rw (sumBy-cons, sumBy-same _ _ os (all-weaker _ _ (λ x e. ap (λ v. x .price .0 * v) e) os later)) (rw (first, ih .1))
+    let later = poured-later o os n a in (
+      rw (sumBy-cons, sumBy-same _ _ os later) (omega (arith, first, ih .0)),
+      rw (sumBy-cons, sumBy-same _ _ os (all-weaker _ _ (λ x e. ap (λ v. x .price .0 * v) e) os later)) (rw (first, ih .1)),
     )
 
 pub poured-draw : (lot : ℕ) (os : List Eligible) (n : ℕ) → Distinct named os → All (λ o. o .left .0 % lot ≡ 0) os → n % lot ≡ 0 → All (λ o. (poured os n (named o) ≤ o .left .0) × (poured os n (named o) % lot ≡ 0)) os
 poured-draw lot [] n a w h = tt
-poured-draw lot (o ∷ os) n a w h =
-    ( subst (λ v. (v ≤ o .left .0) × (v % lot ≡ 0)) (sym (poured-first o os n)) (omega arith, whole-min lot n (o .left .0) h (w .0))
-    , all-both _ _ _ (λ x e k. subst (λ v. (v ≤ x .left .0) × (v % lot ≡ 0)) (sym e) k) os
+poured-draw lot (o ∷ os) n a w h = (
+  subst (λ v. (v ≤ o .left .0) × (v % lot ≡ 0)) (sym (poured-first o os n)) (omega arith, whole-min lot n (o .left .0) h (w .0)),
+  all-both _ _ _ (λ x e k. subst (λ v. (v ≤ x .left .0) × (v % lot ≡ 0)) (sym e) k) os
       (poured-later o os n a)
-      (poured-draw lot os (n - o .left .0) (a .1) (w .1) (whole-sub lot n (o .left .0) h (w .0)))
-    )
+      (poured-draw lot os (n - o .left .0) (a .1) (w .1) (whole-sub lot n (o .left .0) h (w .0))),
+)
 
 pub poured-only : (os : List Eligible) (n k : ℕ) → All (λ o. named o ≡ k → ⊥) os → poured os n k ≡ 0
 poured-only [] n k a = refl

@@ -2,7 +2,7 @@
 use Prim.Native.Nat.{ℕ, _+_, _-_, _*_, _%_, _≤_, _<_, min}
 use native.Mathlib.Nat.{mul-zero, zero-add, zero-mod}
 use native.Mathlib.Omega.{arith}
-use mathlib.Core.Path.{_≡_, refl, sym, ap, subst, _∙_}
+use mathlib.Core.Path.{_≡_, refl, sym, ap, ap₂, subst, _∙_}
 use mathlib.Core.Bool.{Bool, true, false, cond, _&&_}
 use mathlib.Core.List.{List, [], _∷_}
 use mathlib.Core.Logic.{_⊎_, inl, inr}
@@ -60,7 +60,6 @@ only-one before os IsGood x y t u =
     u .emptied ∙ (ap (poured (ranked before os)) e ∙ sym (t .emptied))
 
 module _ (s : Side) (before : Eligible → Eligible → Bool) (os : List Eligible) (k : Priced s before os) where
-
   abbrev rs : List Eligible
   rs = ranked before os
 
@@ -105,12 +104,10 @@ module _ (s : Side) (before : Eligible → Eligible → Bool) (os : List Eligibl
       subst (λ v. NoWorse s v (money os x)) c (h .1)
 
   module _ (lot price least most : ℕ) (l : Lots lot most os) where
-
     ranked-whole : All (λ o. o .left .0 % lot ≡ 0) rs
     ranked-whole = all-shuffled _ os rs same (l .whole)
 
     module _ (w : ℕ) (r : Reach s lot price most rs 0 0 w) where
-
       below : (x : Draw) → Good s lot price least most os x → size os x ≤ w
       below x g =
           let h = cheapest lot x (g .draw) in
@@ -130,12 +127,12 @@ module _ (s : Side) (before : Eligible → Eligible → Bool) (os : List Eligibl
           record {
             draw = record {
               each = all-shuffled _ rs os (shuffled-sym _ _ same) (poured-draw lot rs w ranked-apart ranked-whole (r .whole));
-              only = λ n a. poured-only rs w n (all-shuffled _ os rs same a)
+              only = λ n a. poured-only rs w n (all-shuffled _ os rs same a);
             };
             some = omega (arith, reached);
             enough = omega (arith, reached);
             fits = omega (arith, reached, r .fits);
-            within = rw (poured-money w, reached) (plain s (cost rs w) _ _ (ap (λ v. price * v) (zero-add w)) (r .within))
+            within = rw (poured-money w, reached) (plain s (cost rs w) _ _ (ap (λ v. price * v) (zero-add w)) (r .within));
           }
         where
           plain : (s : Side) (a b c : ℕ) → b ≡ c → NoWorse s (0 + a) b → NoWorse s a c
@@ -160,15 +157,17 @@ module _ (s : Side) (before : Eligible → Eligible → Bool) (os : List Eligibl
       where
         w : ℕ × ℕ
         w = walk s lot price most rs 0 0
+
         n : ℕ
         n = w .0
+
         go : (b : Bool) → (ltb 0 n && leb least n) ≡ b → Decides s before os (Good s lot price least most os) (cond b (Some (record { 0 = w .0 }, record { 0 = w .1 })) None)
         go true e =
             let p = and-parts (ltb 0 n) (leb least n) e in
             let some = ltb-true 0 n (p .0) in
             let enough = leb-true least n (p .1) in
             let t = trades n (reach .0) some enough in
-            (poured rs n, t, reached n (reach .0), poured-money n ∙ sym (reach .1), terms n (reach .0), λ y u. only-one before os _ (poured rs n) y t u)
+            (poured rs n, t, ap₂ (λ (a b : ℕ). (record { 0 = a }, record { 0 = b })) (sym (reached n (reach .0))) (reach .1 ∙ sym (poured-money n)), terms n (reach .0), λ y u. only-one before os _ (poured rs n) y t u)
         go false e = λ x g.
             let b = below n (reach .0) x g in
             let some = g .some in
@@ -178,14 +177,13 @@ module _ (s : Side) (before : Eligible → Eligible → Bool) (os : List Eligibl
 -- draws that are good in one sense exactly where they are in another are decided alike
 pub decides-alike : (s : Side) (before : Eligible → Eligible → Bool) (os : List Eligible) (P Q : Draw → Type 0) → ((x : Draw) → P x → Q x) → ((x : Draw) → Q x → P x) → (r : Option (Quantity × Money)) → Decides s before os P r → Decides s before os Q r
 decides-alike s before os P Q f g None d = λ x q. d x (g x q)
-decides-alike s before os P Q f g (Some r) d =
-    ( d .0
-    , record { good = f (d .0) (d .1 .good); greatest = λ y q. d .1 .greatest y (g y q); emptied = d .1 .emptied }
-    , d .2
-    , d .3
-    , (λ y q e. d .4 y (g y q) e)
-    , λ y t. d .5 y (record { good = g y (t .good); greatest = λ z p. t .greatest z (f z p); emptied = t .emptied })
-    )
+decides-alike s before os P Q f g (Some r) d = (
+  d .0,
+  record { good = f (d .0) (d .1 .good); greatest = λ y q. d .1 .greatest y (g y q); emptied = d .1 .emptied },
+  d .2,
+  (λ y q e. d .3 y (g y q) e),
+  λ y t. d .4 y (record { good = g y (t .good); greatest = λ z p. t .greatest z (f z p); emptied = t .emptied }),
+)
 
 -- a good draw for an automatic request has its quantity as least and as most
 pub automatic-good : (s : Side) (lot limit quantity least-firms firms : ℕ) (os : List Eligible) (x : Draw) → GoodAutomatic s lot limit quantity least-firms firms os x → 0 < quantity → Good s lot limit quantity quantity os x

@@ -5,3 +5,4 @@ pub mod Cost
 pub mod Reaching
 pub mod Steps
 pub mod Finds
+pub mod Decided

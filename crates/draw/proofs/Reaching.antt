@@ -42,8 +42,7 @@ unfolding cost
 cost-front o os t k e f = rw (e, f)
 
 module _ (s : Side) (lot price most : ℕ) (lots : 0 < lot) (o : Eligible) (os : List Eligible) (n m : ℕ)
-  (i : NoWorse s m (price * n)) (small : n ≤ most) where
-
+    (i : NoWorse s m (price * n)) (small : n ≤ most) where
   abbrev t : ℕ
   t = room most n o
 
@@ -68,21 +67,20 @@ module _ (s : Side) (lot price most : ℕ) (lots : 0 < lot) (o : Eligible) (os :
             (ap (λ v. price * v) (add-assoc n t w))
             (r .within);
         greatest = λ k kb kf kw h. elim (cases-lt t k) [
-            inr le ↦ omega arith
+          | inr le ↦ omega arith
           | inl lt ↦
-            let split : k ≡ t + (k - l) = omega arith in
-            let step = r .greatest (k - l) (omega arith) (omega arith) (whole-sub lot k l kw wl)
-                (moved s (m + cost (o ∷ os) k) ((m + q * t) + cost os (k - l)) (price * (n + k)) (price * ((n + t) + (k - l)))
-                  (let e = cost-front o os t (k - l) (omega arith) (omega arith) in let e₂ = ap (cost (o ∷ os)) split in omega arith)
-                  (ap (λ v. price * v) (let z : n + k ≡ (n + t) + (k - l) = omega arith in z))
-                  h) in
-            omega arith
-          ]
+              let split : k ≡ t + (k - l) = omega arith in
+              let step = r .greatest (k - l) (omega arith) (omega arith) (whole-sub lot k l kw wl)
+              (moved s (m + cost (o ∷ os) k) ((m + q * t) + cost os (k - l)) (price * (n + k)) (price * ((n + t) + (k - l)))
+              (let e = cost-front o os t (k - l) (omega arith) (omega arith) in let e₂ = ap (cost (o ∷ os)) split in omega arith)
+              (ap (λ v. price * v) (let z : n + k ≡ (n + t) + (k - l) = omega arith in z))
+              h) in
+              omega arith
+        ];
       }
 
   -- what the money saved pays for of the first offer, and no more
   module _ (w : Worse s (m + q * t) (price * (n + t))) where
-
     abbrev k₀ : ℕ
     k₀ = part lot price n m q
 
@@ -108,18 +106,20 @@ module _ (s : Side) (lot price most : ℕ) (lots : 0 < lot) (o : Eligible) (os :
           within = moved s (m + q * k₀) (m + cost (o ∷ os) k₀) _ _ (ap (λ v. m + v) (sym (cost-part k₀ (omega arith)))) refl
               (paid s q price m n k₀ i worse (part-paid s lot price n m q t lots i w));
           greatest = λ k kb kf kw h. elim (cases-lt l k) [
-              inr le ↦ part-most s lot price n m q t lots i w k kw (pays s q price m n k i worse
+            | inr le ↦ part-most s lot price n m q t lots i w k kw (pays s q price m n k i worse
                 (moved s (m + cost (o ∷ os) k) (m + q * k) _ _ (ap (λ v. m + v) (cost-part k le)) refl h))
             | inl lt ↦ absurd (past k lt kb kf h)
-            ]
+          ];
         }
       where
         glue : (s : Side) (mq u pu qu pnt pnk : ℕ) → pnk ≡ pnt + pu → NoWorse s qu u → NoWorse s pu qu → NoWorse s (mq + u) pnk → Worse s mq pnt → ⊥
         glue Buy mq u pu qu pnt pnk f a b g h = omega arith
         glue Sell mq u pu qu pnt pnk f a b g h = omega arith
+
         flip : (s : Side) (a b : ℕ) → Worse s a b → NoWorse s b a
         flip Buy a b h = omega arith
         flip Sell a b h = omega arith
+
         past : (k : ℕ) → l < k → k ≤ held (o ∷ os) → n + k ≤ most → NoWorse s (m + cost (o ∷ os) k) (price * (n + k)) → ⊥
         past k lt kb kf h =
             let at : k ≡ t + (k - l) = omega arith in
@@ -128,8 +128,8 @@ module _ (s : Side) (lot price most : ℕ) (lots : 0 < lot) (o : Eligible) (os :
             glue s (m + q * t) (cost os (k - l)) (price * (k - l)) (q * (k - l)) (price * (n + t)) (price * (n + k))
             (ap (λ v. price * v) (let z : n + k ≡ (n + t) + (k - l) = omega arith in z) ∙ mul-add price (n + t) (k - l))
             (moved s (cost os 0 + q * (k - l)) (q * (k - l)) (cost os (0 + (k - l))) (cost os (k - l))
-              (ap (λ v. v + q * (k - l)) (cost-zero os) ∙ zero-add _) (ap (cost os) (zero-add (k - l)))
-              (cost-step s q os 0 (k - l) first (omega arith)))
+            (ap (λ v. v + q * (k - l)) (cost-zero os) ∙ zero-add _) (ap (cost os) (zero-add (k - l)))
+            (cost-step s q os 0 (k - l) first (omega arith)))
             (times s price q (k - l) (flip s q price worse))
             (moved s (m + cost (o ∷ os) k) ((m + q * t) + cost os (k - l)) _ _ (omega arith) refl h)
             w
@@ -141,12 +141,16 @@ pub walked : (s : Side) (lot price most : ℕ) → 0 < lot → (os : List Eligib
 unfolding walk cost held
 walked s lot price most lots [] n m wq wl f small wn i =
     record {
-      more = 0; size-is = omega arith; money-is = omega arith;
+      more = 0;
+      size-is = omega arith;
+      money-is = omega arith;
       reach = record {
-        below = omega arith; fits = omega arith; whole = zero-mod lot;
+        below = omega arith;
+        fits = omega arith;
+        whole = zero-mod lot;
         within = moved s m (m + 0) (price * n) (price * (n + 0)) (omega arith) (ap (λ v. price * v) (let z : n ≡ n + 0 = omega arith in z)) i;
-        greatest = λ k kb kf kw h. kb
-      }
+        greatest = λ k kb kf kw h. kb;
+      };
     }
 walked s lot price most lots (o ∷ os) n m wq wl f small wn i =
     go (no-worse s (m + o .price .0 * r) (price * (n + r))) refl
@@ -154,11 +158,13 @@ walked s lot price most lots (o ∷ os) n m wq wl f small wn i =
   where
     r : ℕ
     r = room most n o
+
     wr : r % lot ≡ 0
     wr = whole-min lot (o .left .0) (most - n) (wl .0) (whole-sub lot most n wq wn)
+
     go : (b : Bool) → no-worse s (m + o .price .0 * r) (price * (n + r)) ≡ b →
         (NoWorse s (m + o .price .0 * r) (price * (n + r)) →
-          Walked s lot price most os (n + r) (m + o .price .0 * r) (walk s lot price most os (n + r) (m + o .price .0 * r))) →
+        Walked s lot price most os (n + r) (m + o .price .0 * r) (walk s lot price most os (n + r) (m + o .price .0 * r))) →
         Walked s lot price most (o ∷ os) n m
         (cond b (walk s lot price most os (n + r) (m + o .price .0 * r)) (n + part lot price n m (o .price .0), m + o .price .0 * part lot price n m (o .price .0)))
     go true e ih =
@@ -170,7 +176,7 @@ walked s lot price most lots (o ∷ os) n m wq wl f small wn i =
           more = r + v .more;
           size-is = omega (arith, v .size-is);
           money-is = omega (arith, v .money-is);
-          reach = reach-yes s lot price most lots o os n m i small (v .more) (wl .0) wr (v .reach)
+          reach = reach-yes s lot price most lots o os n m i small (v .more) (wl .0) wr (v .reach);
         }
     go false e ih =
         let w = test-false s _ _ e in
@@ -180,5 +186,5 @@ walked s lot price most lots (o ∷ os) n m wq wl f small wn i =
           more = part lot price n m (o .price .0);
           size-is = refl;
           money-is = omega arith;
-          reach = reach-no s lot price most lots o os n m i small w (f .0)
+          reach = reach-no s lot price most lots o os n m i small w (f .0);
         }

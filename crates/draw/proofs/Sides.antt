@@ -79,12 +79,12 @@ whole-min lot a b h k = elim (cases-lt a b) [ inl l ↦ subst (λ x. x % lot ≡
   where
     at-left : a < b → a ≡ min a b
     at-left l = omega arith
+
     at-right : b ≤ a → b ≡ min a b
     at-right l = omega arith
 
 -- what is paid for of an offer that would take a walk out of the limit: some lots, and not all that is wanted
 module _ (s : Side) (lot price n m q t : ℕ) (lots : 0 < lot) (i : NoWorse s m (price * n)) (w : Worse s (m + q * t) (price * (n + t))) where
-
   abbrev pub d : ℕ
   d = gap q price
 

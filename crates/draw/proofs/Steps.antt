@@ -12,16 +12,15 @@ use Rattle.std.proofs.shelf.Tests.{cond-true, cond-false}
 use Rattle.draw.specs.Sides.{NoWorse, no-worse}
 use Rattle.draw.specs.Walk.{gap, room, part, fitting, walk}
 use Rattle.draw.proofs.Sides.{test-false, apart, part-room}
+use Rattle.draw.proofs.Cost.{cost, held}
 use Rattle.draw.specs.declared.offers.Eligible.{Eligible}
 use Rattle.units.specs.declared.side.Side.{Side}
 
 module _ (s : Side) (lot price most : ℕ) (os : List Eligible) (i : ℕ) (d : Eligible) (n m : ℕ) where
-
   abbrev o : Eligible
   o = getD os i d
 
   module _ (q t : ℕ) (l : i < length os) (eq : q ≡ o .price .0) (et : t ≡ room most n o) where
-
     -- with the totals as the code has them
     opened : walk s lot price most (drop i os) n m ≡
         cond (fitting s price n m q t) (walk s lot price most (drop (i + 1) os) (n + t) (m + q * t)) (n + part lot price n m q, m + q * part lot price n m q)
@@ -45,8 +44,7 @@ grown q t n m most hq hn hm h = let k = mul-le-mul-right t hq in (omega arith, o
 
 -- one turn of the loop, with the totals as it has them: size and money with all that is wanted of the next offer, N and M
 module _ (s : Side) (lot price most : ℕ) (os : List Eligible) (i : ℕ) (d : Eligible) (n m t N M : ℕ)
-  (l : i < length os) (et : t ≡ room most n (getD os i d)) (eN : N ≡ n + t) (eM : M ≡ m + getD os i d .price .0 * t) where
-
+    (l : i < length os) (et : t ≡ room most n (getD os i d)) (eN : N ≡ n + t) (eM : M ≡ m + getD os i d .price .0 * t) where
   fits-is : (b : Bool) → b ≡ no-worse s M (price * N) → fitting s price n m (getD os i d .price .0) t ≡ b
   fits-is b h = ap₂ (λ x y. no-worse s x (price * y)) (sym eM) (sym eN) ∙ sym h
 
@@ -56,9 +54,9 @@ module _ (s : Side) (lot price most : ℕ) (os : List Eligible) (i : ℕ) (d : E
   pub turn-stop : false ≡ no-worse s M (price * N) → (k N′ M′ : ℕ) → k ≡ part lot price n m (getD os i d .price .0) → N′ ≡ n + k → M′ ≡ m + getD os i d .price .0 * k →
       (N′ ≡ walk s lot price most (drop i os) n m .0) × (M′ ≡ walk s lot price most (drop i os) n m .1)
   turn-stop h k N′ M′ ek e f =
-      let w = walk-stop s lot price most os i d n m _ t l refl et (fits-is false h) in
-      ( e ∙ (ap (λ v. n + v) ek ∙ sym (ap (λ v. v .0) w))
-      , f ∙ (ap (λ v. m + getD os i d .price .0 * v) ek ∙ sym (ap (λ v. v .1) w))
+      let w = walk-stop s lot price most os i d n m _ t l refl et (fits-is false h) in (
+        e ∙ (ap (λ v. n + v) ek ∙ sym (ap (λ v. v .0) w)),
+        f ∙ (ap (λ v. m + getD os i d .price .0 * v) ek ∙ sym (ap (λ v. v .1) w)),
       )
 
   -- what is paid for of an offer that would take the walk out of the price: some lots of it, in range
@@ -68,8 +66,24 @@ module _ (s : Side) (lot price most : ℕ) (os : List Eligible) (i : ℕ) (d : E
   turn-part lots hq small hm h w f =
       let q = getD os i d .price .0 in
       let out = test-false s (m + q * t) (price * (n + t)) (fits-is false f) in
-      let less = part-room s lot price n m q t lots w out in
-      ( mul-pos lots (apart s lot price n m q t lots w out)
-      , omega arith
-      , λ k e. (omega arith, grown q k n m most hq (omega arith) hm h .1)
+      let less = part-room s lot price n m q t lots w out in (
+        mul-pos lots (apart s lot price n m q t lots w out),
+        omega arith,
+        λ k e. (omega arith, grown q k n m most hq (omega arith) hm h .1),
       )
+
+-- the first units by places: all that is wanted of one offer more, and the end
+pub first-more : (most : ℕ) (os : List Eligible) (i : ℕ) (d : Eligible) (n m t N M : ℕ) → i < length os → n ≤ most → t ≡ room most n (getD os i d) → N ≡ n + t → M ≡ m + getD os i d .price .0 * t →
+    (N + min (most - N) (held (drop (i + 1) os)) ≡ n + min (most - n) (held (drop i os))) × (M + cost (drop (i + 1) os) (most - N) ≡ m + cost (drop i os) (most - n))
+unfolding cost held
+first-more most os i d n m t N M l small et eN eM =
+    let o = getD os i d in
+    let rest : (most - n) - o .left .0 ≡ most - N = omega arith in
+    let here : min (most - n) (o .left .0) ≡ t = omega arith in (
+      rw (drop-more os i d l) (omega arith),
+      rw (drop-more os i d l, rest, here) (omega arith),
+    )
+
+pub first-end : (most : ℕ) (os : List Eligible) (i n m : ℕ) → length os ≤ i → (n ≡ n + min (most - n) (held (drop i os))) × (m ≡ m + cost (drop i os) (most - n))
+unfolding cost held
+first-end most os i n m l = rw (drop-all i os l) (omega arith, omega arith)

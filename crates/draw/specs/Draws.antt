@@ -26,6 +26,9 @@ size os x = sumBy (λ o. x (named o)) os
 abbrev pub money : List Eligible → Draw → ℕ
 money os x = sumBy (λ o. o .price .0 * x (named o)) os
 
+abbrev pub totals : List Eligible → Draw → Quantity × Money
+totals os x = (record { 0 = size os x }, record { 0 = money os x })
+
 -- from each offer 0 up to what is left, in whole lots, and nothing from anything else
 pub record IsDraw (lot : ℕ) (os : List Eligible) (x : Draw) : Type 0 where
   pub each : All (λ o. (x (named o) ≤ o .left .0) × (x (named o) % lot ≡ 0)) os
@@ -69,7 +72,7 @@ BestTerms s os IsGood x = (y : Draw) → IsGood y → size os y ≡ size os x �
 abbrev pub Decides : Side → (Eligible → Eligible → Bool) → List Eligible → (Draw → Type 0) → Option (Quantity × Money) → Type 0
 Decides s before os IsGood None = (x : Draw) → IsGood x → ⊥
 Decides s before os IsGood (Some r) =
-    (x : Draw) × Trades before os IsGood x × (size os x ≡ r .0 .0) × (money os x ≡ r .1 .0) × BestTerms s os IsGood x
+    (x : Draw) × Trades before os IsGood x × (r ≡ totals os x) × BestTerms s os IsGood x
     × ((y : Draw) → Trades before os IsGood y → y ≡ x)
 
 -- the draw of a status: the offers emptied in their ranking up to the request's quantity, or all there is, without a limit

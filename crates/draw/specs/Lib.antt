@@ -3,3 +3,4 @@ pub mod Offers
 pub mod Rankings
 pub mod Draws
 pub mod Walk
+pub mod Decisions

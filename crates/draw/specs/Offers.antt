@@ -10,7 +10,8 @@ use Rattle.std.specs.declared.option.Option.the-variants.{Some, None}
 use Rattle.units.specs.declared.side.Side.{Side}
 use Rattle.units.specs.declared.side.Side.the-variants as sides
 use Rattle.units.specs.Sides.{other}
-use Rattle.units.specs.Ranges.{is-price, is-quantity}
+use Rattle.units.specs.Ranges.{is-price, is-quantity, is-lot}
+use Rattle.ranked.specs.Lists.{Apart}
 use Rattle.draw.specs.declared.offers.Source.{Source}
 use Rattle.draw.specs.declared.offers.Source.the-variants.{Book, AnswerTo}
 use Rattle.draw.specs.declared.offers.Offered.{Offered}
@@ -55,3 +56,10 @@ named o = o .number .0
 pub record Sound (lot : ℕ) (o : Eligible) : Type 0 where
   pub price : is-price (o .price .0) ≡ true
   pub left : is-quantity lot (o .left .0) ≡ true
+
+-- what a decision may take for granted: a lot and a quantity in range, sound offers, no number that names two
+pub record Ready (lot quantity : ℕ) (os : List Eligible) : Type 0 where
+  pub lot-fits : is-lot lot ≡ true
+  pub fits : is-quantity lot quantity ≡ true
+  pub sound : All (Sound lot) os
+  pub apart : Apart named os

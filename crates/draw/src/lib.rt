@@ -1,14 +1,18 @@
 // What a request may draw on, in which order, and the draw that trades.
+mod decisions;
 mod offers;
 mod rankings;
 mod walk;
 
-pub use offers::admit;
+pub use decisions::decide;
+pub use decisions::decide_automatic;
+pub use decisions::total_status;
 pub use offers::Eligible;
 pub use offers::EligibleNamed;
 pub use offers::Offered;
 pub use offers::Source;
 pub use offers::Taker;
+pub use offers::admit;
 pub use rankings::OfferRanking;
 pub use rankings::RequestRanking;
 pub use rankings::RequestRankingByPrice;

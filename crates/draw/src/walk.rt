@@ -5,7 +5,9 @@ ghost use Prim.Native.Nat.{ℕ, _+_, _-_, _*_, _^_, _<_, _≤_, min};
 ghost use Rattle.std.specs.shelf.Lists.{All};
 ghost use Rattle.units.specs.Ranges.{is-price, is-quantity, is-lot};
 ghost use Rattle.draw.specs.Sides.{no-worse};
-ghost use Rattle.draw.specs.Offers.{Sound};
+ghost use Rattle.ranked.specs.Lists.{Apart};
+ghost use Rattle.draw.specs.Offers.{Sound, named};
+ghost use Rattle.draw.specs.Draws.{totals, poured};
 ghost use Rattle.draw.specs.Walk.{gap, room, part, walk};
 use super::Eligible;
 use units::Lot;
@@ -46,7 +48,10 @@ fn with(totals: (Quantity, Money), price: Price, units: Quantity) -> (Quantity, 
     ensures size { λ r. ⌜ r .0 .0 ≡ totals .0 .0 + units .0 ⌝ }
     ensures money { λ r. ⌜ r .1 .0 ≡ totals .1 .0 + price .0 * units .0 ⌝ }
 {
-    (Quantity(totals.0.0 + units.0), Money(totals.1.0 + price.times(units).0))
+    (
+        Quantity(totals.0.0 + units.0),
+        Money(totals.1.0 + price.times(units).0),
+    )
 }
 
 // The units, in whole lots and at a price worse than the limit, that the money saved so far pays for.
@@ -61,7 +66,13 @@ fn part(lot: Lot, limit: Price, totals: (Quantity, Money), price: Price) -> Quan
 }
 
 // Whole offers while the whole stays within the price, then what still fits of the next.
-pub(crate) fn walk(offers: &[Eligible], side: Side, lot: Lot, price: Price, most: Quantity) -> (Quantity, Money)
+pub(crate) fn walk(
+    offers: &[Eligible],
+    side: Side,
+    lot: Lot,
+    price: Price,
+    most: Quantity,
+) -> (Quantity, Money)
     requires lot { ⌜ is-lot (lot .0) ≡ true ⌝ }
     requires offers { ⌜ All (Sound (lot .0)) (now offers) ⌝ }
     requires price { ⌜ is-price (price .0) ≡ true ⌝ }
@@ -76,6 +87,21 @@ pub(crate) fn walk(offers: &[Eligible], side: Side, lot: Lot, price: Price, most
             return with(totals, o.price, part(lot, price, totals, o.price));
         }
         totals = all;
+    }
+    totals
+}
+
+// The first units of the offers in their order: `most` of them, or all there are.
+pub(crate) fn first_units(offers: &[Eligible], most: Quantity) -> (Quantity, Money)
+    requires prices { ⌜ All (λ o. is-price (o .price .0) ≡ true) (now offers) ⌝ }
+    requires apart { ⌜ Apart named (now offers) ⌝ }
+    requires most { ⌜ most .0 ≤ 1000000 ⌝ }
+    ensures value { λ r. ⌜ r ≡ totals (now (offers .entry)) (poured (now (offers .entry)) (most .0)) ⌝ }
+    ensures bound { λ r. ⌜ r .1 .0 ≤ 1000000000 * r .0 .0 ⌝ }
+{
+    let mut totals = (Quantity(0), Money(0));
+    for o in offers {
+        totals = with(totals, o.price, room(o, most, totals.0));
     }
     totals
 }
