@@ -6,3 +6,4 @@ pub mod Reaching
 pub mod Steps
 pub mod Finds
 pub mod Decided
+pub mod Pouring

@@ -4,3 +4,4 @@ pub mod Rankings
 pub mod Draws
 pub mod Walk
 pub mod Decisions
+pub mod Fills

@@ -1,5 +1,6 @@
 // What a request may draw on, in which order, and the draw that trades.
 mod decisions;
+mod fills;
 mod offers;
 mod rankings;
 mod walk;
@@ -12,6 +13,10 @@ pub use offers::EligibleNamed;
 pub use offers::Offered;
 pub use offers::Source;
 pub use offers::Taker;
+pub use fills::Fill;
+pub use fills::FillTellsFill;
+pub use fills::pour;
+pub use fills::TellsFill;
 pub use offers::admit;
 pub use rankings::OfferRanking;
 pub use rankings::RequestRanking;
