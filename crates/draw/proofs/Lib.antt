@@ -7,3 +7,4 @@ pub mod Steps
 pub mod Finds
 pub mod Decided
 pub mod Pouring
+pub mod Counting

@@ -5,3 +5,5 @@ pub mod Draws
 pub mod Walk
 pub mod Decisions
 pub mod Fills
+pub mod Prices
+pub mod Firms

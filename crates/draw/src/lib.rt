@@ -1,7 +1,9 @@
 // What a request may draw on, in which order, and the draw that trades.
 mod decisions;
 mod fills;
+mod firms;
 mod offers;
+mod prices;
 mod rankings;
 mod walk;
 
@@ -13,10 +15,13 @@ pub use offers::EligibleNamed;
 pub use offers::Offered;
 pub use offers::Source;
 pub use offers::Taker;
+pub use prices::shown_price;
 pub use fills::Fill;
 pub use fills::FillTellsFill;
 pub use fills::pour;
 pub use fills::TellsFill;
+pub use firms::Answering;
+pub use firms::count_firms;
 pub use offers::admit;
 pub use rankings::OfferRanking;
 pub use rankings::RequestRanking;
