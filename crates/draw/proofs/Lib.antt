@@ -8,3 +8,4 @@ pub mod Finds
 pub mod Decided
 pub mod Pouring
 pub mod Counting
+pub mod Marks

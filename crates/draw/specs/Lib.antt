@@ -7,3 +7,4 @@ pub mod Decisions
 pub mod Fills
 pub mod Prices
 pub mod Firms
+pub mod Examples
