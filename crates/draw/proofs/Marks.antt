@@ -41,23 +41,31 @@ at-few least = confirmed Buy few few-apart 1 1 least 3 (record { some = omega ar
 
 pub worked : Worked
 unfolding walk
-worked =
-    ( (refl, refl)
-    , ( (refl, refl)
-      , ( at-sellers 992 0
-        , ( at-sellers 991 0
-          , ( at-sellers 980 0
-            , ( at-sellers 979 0
-              , ( at-sellers 991 4440
-                , ( at-sellers 991 4450
-                  , ( confirmed Sell bidders bidders-apart 10 995 0 3000 (record { some = omega arith; whole-most = refl; whole = (refl, (refl, tt)) })
-                    , (refl, ((refl, refl), (at-few 0, (at-few 3, (refl, tt)))))
-                    )
-                  )
-                )
-              )
-            )
-          )
-        )
-      )
-    )
+worked = (
+  (refl, refl),
+  (
+    (refl, refl),
+    (
+      at-sellers 992 0,
+      (
+        at-sellers 991 0,
+        (
+          at-sellers 980 0,
+          (
+            at-sellers 979 0,
+            (
+              at-sellers 991 4440,
+              (
+                at-sellers 991 4450,
+                (
+                  confirmed Sell bidders bidders-apart 10 995 0 3000 (record { some = omega arith; whole-most = refl; whole = (refl, (refl, tt)) }),
+                  (refl, ((refl, refl), (at-few 0, (at-few 3, (refl, tt))))),
+                ),
+              ),
+            ),
+          ),
+        ),
+      ),
+    ),
+  ),
+)

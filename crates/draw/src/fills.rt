@@ -30,15 +30,6 @@ pub trait TellsFill: Sized {
         ensures { λ r. ⌜ r ≡ tells (taker .0) fill ⌝ };
 }
 
-// A fill by itself, where the taker is known.
-pub impl TellsFill for Fill as FillTellsFill {
-    ghost tells = { λ _ fill. fill };
-
-    fn of_fill(taker: Number, fill: Fill) -> Fill {
-        fill
-    }
-}
-
 // What is filled of an offer where so many units are still to be taken.
 fn fill_of(offer: &Eligible, rest: Quantity) -> Fill
     ensures { λ r. ⌜ r ≡ record { maker = now (offer .entry) .number; price = now (offer .entry) .price; quantity = record { 0 = min (rest .0) (now (offer .entry) .left .0) } } ⌝ }
@@ -51,7 +42,13 @@ fn fill_of(offer: &Eligible, rest: Quantity) -> Fill
 }
 
 // Empties the offers in their order, one fill after another.
-fn write_fills<W: TellsFill + Copy>(offers: &[Eligible], taker: Number, n: Quantity, out: &mut [W], at: usize) -> usize
+fn write_fills<W: TellsFill + Copy>(
+    offers: &[Eligible],
+    taker: Number,
+    n: Quantity,
+    out: &mut [W],
+    at: usize,
+) -> usize
     requires places { ⌜ at + length (now offers) ≤ length (now out) ⌝ }
     requires apart { ⌜ Apart named (now offers) ⌝ }
     requires some { ⌜ All (λ o. 0 < o .left .0) (now offers) ⌝ }
@@ -74,7 +71,13 @@ fn write_fills<W: TellsFill + Copy>(offers: &[Eligible], taker: Number, n: Quant
 }
 
 // Writes the fills that empty ranked offers until `n` units are reached, from the place `at` on; answers the place behind the last.
-pub fn pour<W: TellsFill + Copy>(offers: &[Eligible], taker: Number, n: Quantity, out: &mut [W], at: usize) -> usize
+pub fn pour<W: TellsFill + Copy>(
+    offers: &[Eligible],
+    taker: Number,
+    n: Quantity,
+    out: &mut [W],
+    at: usize,
+) -> usize
     requires places { ⌜ at + length (now offers) ≤ length (now out) ⌝ }
     requires apart { ⌜ Apart named (now offers) ⌝ }
     requires some { ⌜ All (λ o. 0 < o .left .0) (now offers) ⌝ }

@@ -17,17 +17,17 @@ returns-then-rest-eq0 g c =
     record {
       written = writes-as (all-written (g .W·TellsFill .tells (c .args .taker .0)) (c .loop-o .inv .0) _ _ (ap (fills _) (c .if-rest-eq0 .taken) ∙ fills-none _) (c .loop-o .inv .2)) (c .loop-o .inv .1);
       draw = fills-up (c .args .offers .now) (c .args .n .0) (c .pre .apart) (c .pre .some);
-      few = omega (arith, c .loop-o .inv .3, c .loop-o .kept)
+      few = omega (arith, c .loop-o .inv .3, c .loop-o .kept);
     }
 
 pub loop-o-again : need.loop-o-again
 loop-o-again g c =
     let f = fills-more (c .args .offers .now) (c .loop-o .o-index) nothing (c .loop-o .rest .0) (c .fill-of-fill .result) _ (c .loop-o-test .taken) (omega arith) (c .fill-of-fill .ensures) refl in
-    let l : c .loop-o .count < length (c .loop-o .out) = omega arith in
-    ( _
-    , writes-more _ (c .loop-o .inv .1) l
-    , one-written (g .W·TellsFill .tells (c .args .taker .0)) (c .loop-o .inv .0) _ _ _ _ _ f (c .of-fill .ensures) (c .loop-o .inv .2)
-    , omega arith
+    let l : c .loop-o .count < length (c .loop-o .out) = omega arith in (
+      _,
+      writes-more _ (c .loop-o .inv .1) l,
+      one-written (g .W·TellsFill .tells (c .args .taker .0)) (c .loop-o .inv .0) _ _ _ _ _ f (c .of-fill .ensures) (c .loop-o .inv .2),
+      omega arith,
     )
 
 pub returns : need.returns
@@ -35,5 +35,5 @@ returns g c =
     record {
       written = writes-as (all-written (g .W·TellsFill .tells (c .args .taker .0)) (c .loop-o .inv .0) _ _ (fills-end (c .args .offers .now) (c .loop-o .o-index) (c .loop-o .rest .0) (c .loop-o-test .left)) (c .loop-o .inv .2)) (c .loop-o .inv .1);
       draw = fills-up (c .args .offers .now) (c .args .n .0) (c .pre .apart) (c .pre .some);
-      few = omega (arith, c .loop-o .inv .3, c .loop-o .kept)
+      few = omega (arith, c .loop-o .inv .3, c .loop-o .kept);
     }
