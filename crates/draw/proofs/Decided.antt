@@ -20,13 +20,18 @@ use Rattle.ranked.proofs.Placing.{ranked-shuffled}
 use Rattle.ranked.proofs.Sorting.{any-order}
 use Rattle.draw.specs.declared.offers.Eligible.{Eligible}
 use Rattle.draw.specs.Offers.{Sound, named}
-use Rattle.draw.specs.Rankings.{better-price}
+use Rattle.draw.specs.Rankings.{request-before}
 use Rattle.draw.specs.Draws.{Draw, size, money, totals, Good, GoodAutomatic, Decides, poured}
 use Rattle.draw.specs.Walk.{walk, answered, decided}
 use Rattle.draw.specs.Decisions.{Confirms, Serves, Shows, automatic}
+use Rattle.draw.proofs.Orders.{request-order, request-better}
 use Rattle.draw.proofs.Bounds.{lot-bounds, quantity-bounds, sound-whole}
 use Rattle.draw.specs.Sides.{NoWorse}
 use Rattle.draw.proofs.Finds.{Priced, Lots, same-size, same-money, poured-size, poured-best, walk-decides, decides-alike, automatic-good, good-automatic}
+
+-- the request ranking meets what best terms rest on
+pub request-priced : (s : Side) (os : List Eligible) → Apart named os → Priced s (request-before s) os
+request-priced s os a = record { apart = a; order = request-order s; better-first = request-better s }
 
 -- ranked offers are as sound as they came
 pub ranked-sound : (before : Eligible → Eligible → Bool) (lot : ℕ) (os rs : List Eligible) → rs ≡ ranked before os → All (Sound lot) os → All (Sound lot) rs

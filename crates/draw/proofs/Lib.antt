@@ -9,3 +9,4 @@ pub mod Decided
 pub mod Pouring
 pub mod Counting
 pub mod Marks
+pub mod Gathering

@@ -13,16 +13,12 @@ use Rattle.draw.specs.Draws.{Good, Decides}
 use Rattle.draw.specs.Walk.{walk, decided}
 use Rattle.draw.specs.Examples.{sellers, bidders, few, Worked}
 use Rattle.ranked.specs.Lists.{ranked}
-use Rattle.draw.proofs.Orders.{request-order, request-better}
-use Rattle.draw.proofs.Finds.{Priced, Lots, walk-decides}
-
--- offers with different numbers meet what the theorem asks
-priced : (s : Side) (os : List Eligible) → Distinct named os → Priced s (request-before s) os
-priced s os d = record { apart = apart-from-distinct named os d; order = request-order s; better-first = request-better s }
+use Rattle.draw.proofs.Finds.{Lots, walk-decides}
+use Rattle.draw.proofs.Decided.{request-priced}
 
 confirmed : (s : Side) (os : List Eligible) → Distinct named os → (lot price least most : ℕ) → Lots lot most os →
     Decides s (request-before s) os (Good s lot price least most os) (decided s lot price least most (ranked (request-before s) os))
-confirmed s os d lot price least most l = walk-decides s (request-before s) os (priced s os d) lot price least most l
+confirmed s os d lot price least most l = walk-decides s (request-before s) os (request-priced s os (apart-from-distinct named os d)) lot price least most l
 
 sellers-apart : Distinct named sellers
 sellers-apart = (((λ e. omega arith), ((λ e. omega arith), tt)), (((λ e. omega arith), tt), (tt, tt)))
