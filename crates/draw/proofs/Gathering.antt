@@ -24,7 +24,6 @@ listed None = []
 listed (Some e) = e ∷ []
 
 module _ (t : Taker) where
-
   pub eligible-append : (xs ys : List Offered) → eligible t (xs ++ ys) ≡ eligible t xs ++ eligible t ys
   eligible-append xs ys = ap (map as-eligible) (kept-by-append (is-eligible t) xs ys) ∙ map-append as-eligible (kept-by (is-eligible t) xs) (kept-by (is-eligible t) ys)
 
