@@ -10,3 +10,4 @@ pub mod Pouring
 pub mod Counting
 pub mod Marks
 pub mod Gathering
+pub mod Fairness

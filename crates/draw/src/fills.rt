@@ -8,8 +8,9 @@ ghost use Rattle.ranked.specs.Lists.{Apart};
 ghost use Rattle.ranked.specs.Writes.{Writes};
 ghost use Rattle.draw.specs.declared.fills.Fill.{Fill};
 ghost use Rattle.draw.specs.Offers.{named};
-ghost use Rattle.draw.specs.Fills.{fills, Fills-up};
+ghost use Rattle.draw.specs.Fills.{fills, traded, Fills-up, FairConfirmation, FairTurn};
 use super::Eligible;
+use units::Money;
 use units::Number;
 use units::Price;
 use units::Quantity;
@@ -86,4 +87,45 @@ pub fn pour<W: TellsFill + Copy>(
     ensures few { λ r. ⌜ r ≤ at + length (now (offers .entry)) ⌝ }
 {
     write_fills(offers, taker, n, out, at)
+}
+
+// Writes the fills of what was found, if anything was.
+fn pour_found<W: TellsFill + Copy>(
+    offers: &[Eligible],
+    found: Option<(Quantity, Money)>,
+    taker: Number,
+    out: &mut [W],
+    at: usize,
+) -> usize
+    requires places { ⌜ at + length (now offers) ≤ length (now out) ⌝ }
+    requires apart { ⌜ Apart named (now offers) ⌝ }
+    requires some { ⌜ All (λ o. 0 < o .left .0) (now offers) ⌝ }
+    ensures written { λ r. ⌜ Writes (now (out .entry)) (now (out .exit)) at r (map (tells (taker .0)) (traded (now (offers .entry)) found)) ⌝ }
+    ensures confirmed { λ _. ⌜ FairConfirmation (now (offers .entry)) found ⌝ }
+    ensures served { λ _. ⌜ FairTurn (now (offers .entry)) found ⌝ }
+    ensures few { λ r. ⌜ r ≤ at + length (now (offers .entry)) ⌝ }
+{
+    match found {
+        Some((size, _)) => pour(offers, taker, size, out, at),
+        None => at,
+    }
+}
+
+// Carries out a decision on ranked offers: writes its fills from the place `at` on, none where nothing was found; answers the place behind the last.
+pub fn execute<W: TellsFill + Copy>(
+    offers: &[Eligible],
+    found: Option<(Quantity, Money)>,
+    taker: Number,
+    out: &mut [W],
+    at: usize,
+) -> usize
+    requires places { ⌜ at + length (now offers) ≤ length (now out) ⌝ }
+    requires apart { ⌜ Apart named (now offers) ⌝ }
+    requires some { ⌜ All (λ o. 0 < o .left .0) (now offers) ⌝ }
+    ensures written { λ r. ⌜ Writes (now (out .entry)) (now (out .exit)) at r (map (tells (taker .0)) (traded (now (offers .entry)) found)) ⌝ }
+    ensures confirmed { λ _. ⌜ FairConfirmation (now (offers .entry)) found ⌝ }
+    ensures served { λ _. ⌜ FairTurn (now (offers .entry)) found ⌝ }
+    ensures few { λ r. ⌜ r ≤ at + length (now (offers .entry)) ⌝ }
+{
+    pour_found(offers, found, taker, out, at)
 }

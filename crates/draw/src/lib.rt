@@ -16,6 +16,7 @@ pub use decisions::total_status;
 pub use examples::worked_examples;
 pub use fills::Fill;
 pub use fills::TellsFill;
+pub use fills::execute;
 pub use fills::pour;
 pub use firms::Answering;
 pub use firms::count_firms;
