@@ -1,12 +1,10 @@
 -- The money of the first units in a ranked order is the best that any draw of as many units has.
-use Prim.Native.Nat.{ℕ, _+_, _-_, _*_, _%_, _≤_, _<_, min}
-use native.Mathlib.Nat.{mul-add, mul-zero, zero-add, zero-min, zero-sub, add-zero}
+use Prim.Native.Nat.{ℕ, _+_, _-_, _*_, _%_, _≤_, min}
+use native.Mathlib.Nat.{mul-add, mul-zero, zero-add, zero-min, zero-sub}
 use native.Mathlib.Omega.{arith}
 use mathlib.Core.Path.{_≡_, refl, sym, ap, subst, _∙_}
-use mathlib.Core.Bool.{Bool, true, false, cond}
+use mathlib.Core.Bool.{false}
 use mathlib.Core.List.{List, [], _∷_}
-use mathlib.Core.Logic.{_⊎_, inl, inr}
-use lib.Dec.{eqb}
 use Rattle.std.specs.shelf.Lists.{All, sumBy}
 use Rattle.std.proofs.shelf.Elements.{all-weaker}
 use Rattle.std.proofs.shelf.Sums.{sumBy-cons}

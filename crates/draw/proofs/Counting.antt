@@ -5,7 +5,6 @@ use native.Mathlib.Omega.{arith}
 use mathlib.Core.Path.{_≡_, refl, sym, ap, _∙_}
 use mathlib.Core.Bool.{Bool, true, false, cond, not, _||_, _&&_}
 use mathlib.Core.List.{List, [], _∷_, map}
-use mathlib.Core.Logic.{_⊎_, inl, inr}
 use lib.Dec.{eqb}
 use lib.ListN.{length, getD, drop}
 use Rattle.std.specs.shelf.Lists.{countBy, kept-by}
@@ -13,7 +12,7 @@ use Rattle.std.specs.Holes.{between}
 use Rattle.std.proofs.shelf.Lists.{drop-more, drop-all}
 use Rattle.std.proofs.shelf.Parts.{between-to-end}
 use Rattle.std.proofs.shelf.Sums.{sumBy-cons}
-use Rattle.std.proofs.shelf.Tests.{cond-true, cond-false, eqb-true, cases-bool}
+use Rattle.std.proofs.shelf.Tests.{eqb-true}
 use Rattle.draw.specs.Firms.{firms-of, among, once, different, Each-once}
 
 module _ {X : Type 0} (firm : X → ℕ) (request : X → ℕ) (n : ℕ) where

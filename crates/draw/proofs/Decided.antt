@@ -1,27 +1,26 @@
 -- From what the walk finds to what the public calls on draws promise.
-use Prim.Native.Nat.{ℕ, _*_, _≤_, _<_, min}
+use Prim.Native.Nat.{ℕ, _*_, _≤_, _<_}
 use native.Mathlib.Omega.{arith}
-use mathlib.Core.Path.{_≡_, refl, sym, ap, ap₂, subst, _∙_}
-use mathlib.Core.Bool.{Bool, true, false, cond}
+use mathlib.Core.Path.{_≡_, sym, ap, ap₂, subst, _∙_}
+use mathlib.Core.Bool.{Bool, true}
 use mathlib.Core.List.{List}
-use lib.Dec.{leb}
-use Rattle.std.specs.shelf.Lists.{All, sumBy}
+use Rattle.std.specs.shelf.Lists.{All}
 use Rattle.std.specs.Slices.{Shuffled}
 use Rattle.std.specs.declared.option.Option.{Option}
-use Rattle.std.specs.declared.option.Option.the-variants.{Some, None}
+use Rattle.std.specs.declared.option.Option.the-variants.{None}
 use Rattle.std.proofs.shelf.Sorted.{all-shuffled, sumBy-shuffled}
 use Rattle.std.proofs.shelf.Tests.{le-leb, lt-leb, cond-true, cond-false}
 use Rattle.units.specs.Ranges.{is-lot, is-quantity}
 use Rattle.units.specs.declared.side.Side.{Side}
 use Rattle.units.specs.declared.Quantity.{Quantity}
 use Rattle.units.specs.declared.Money.{Money}
-use Rattle.ranked.specs.Lists.{Order, Apart, ranked}
+use Rattle.ranked.specs.Lists.{Apart, ranked}
 use Rattle.ranked.proofs.Placing.{ranked-shuffled}
 use Rattle.ranked.proofs.Sorting.{any-order}
 use Rattle.draw.specs.declared.offers.Eligible.{Eligible}
 use Rattle.draw.specs.Offers.{Sound, named}
 use Rattle.draw.specs.Rankings.{request-before}
-use Rattle.draw.specs.Draws.{Draw, size, money, totals, Good, GoodAutomatic, Decides, poured}
+use Rattle.draw.specs.Draws.{money, totals, Good, Decides, poured}
 use Rattle.draw.specs.Walk.{walk, answered, decided}
 use Rattle.draw.specs.Decisions.{Confirms, Serves, Shows, automatic}
 use Rattle.draw.proofs.Orders.{request-order, request-better}

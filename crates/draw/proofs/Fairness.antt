@@ -1,9 +1,9 @@
 -- The fills of a decision are what the rules name.
-use Prim.Native.Nat.{ℕ, _≤_, _<_}
+use Prim.Native.Nat.{ℕ, _<_}
 use native.Mathlib.Omega.{arith}
 use mathlib.Core.Path.{_≡_, refl, sym, ap, subst, _∙_}
 use mathlib.Core.Bool.{Bool}
-use mathlib.Core.List.{List, [], _∷_}
+use mathlib.Core.List.{List, []}
 use Rattle.std.specs.shelf.Lists.{All, sumBy}
 use Rattle.std.specs.declared.option.Option.{Option}
 use Rattle.std.specs.declared.option.Option.the-variants.{Some, None}
@@ -16,7 +16,7 @@ use Rattle.ranked.proofs.Placing.{ranked-shuffled}
 use Rattle.draw.specs.declared.offers.Eligible.{Eligible}
 use Rattle.draw.specs.declared.fills.Fill.{Fill}
 use Rattle.draw.specs.Offers.{named}
-use Rattle.draw.specs.Draws.{Draw, size, totals, poured, Trades, BestTerms, Decides}
+use Rattle.draw.specs.Draws.{Draw, size, poured, Trades, BestTerms, Decides}
 use Rattle.draw.specs.Fills.{taken, fills, traded, Fair, FairConfirmation, FairTurn}
 use Rattle.draw.proofs.Pouring.{fills-up}
 

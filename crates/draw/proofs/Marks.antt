@@ -1,7 +1,7 @@
 -- The worked examples hold.
 use Prim.Native.Nat.{ℕ}
 use native.Mathlib.Omega.{arith}
-use mathlib.Core.Path.{_≡_, refl}
+use mathlib.Core.Path.{refl}
 use mathlib.Core.List.{List}
 use Rattle.units.specs.declared.side.Side.{Side}
 use Rattle.units.specs.declared.side.Side.the-variants.{Buy, Sell}

@@ -5,20 +5,20 @@ use native.Mathlib.Omega.{arith}
 use mathlib.Core.Path.{_≡_, refl, sym, ap, ap₂, subst, fun-ext, _∙_}
 use mathlib.Core.Bool.{Bool, true, false, cond}
 use mathlib.Core.List.{List, [], _∷_, _++_, map, append-assoc, append-nil}
-use mathlib.Core.Logic.{_⊎_, inl, inr}
+use mathlib.Core.Logic.{inl, inr}
 use lib.Dec.{eqb}
 use lib.ListN.{length, getD, drop, take}
 use Rattle.std.specs.shelf.Lists.{All, sumBy, countBy}
 use Rattle.std.proofs.shelf.Elements.{all-weaker}
 use Rattle.std.proofs.shelf.Lists.{drop-more, drop-all}
 use Rattle.std.proofs.shelf.Sums.{sumBy-cons}
-use Rattle.std.proofs.shelf.Tests.{cond-true, cond-false, ne-eqb, eqb-true, cases-eq}
+use Rattle.std.proofs.shelf.Tests.{cond-false, ne-eqb, eqb-true, cases-eq}
 use Rattle.ranked.specs.Lists.{Apart}
 use Rattle.ranked.proofs.Sorting.{Distinct, distinct-from-apart}
 use Rattle.draw.specs.declared.offers.Eligible.{Eligible}
 use Rattle.draw.specs.declared.fills.Fill.{Fill}
 use Rattle.draw.specs.Offers.{named}
-use Rattle.draw.specs.Draws.{size, money, poured}
+use Rattle.draw.specs.Draws.{poured}
 use Rattle.draw.specs.Fills.{taken, fills, maker-of, offer-of, Fills-up}
 use Rattle.draw.proofs.Cost.{cost, held, cost-zero, poured-totals}
 

@@ -1,4 +1,3 @@
-use mathlib.Core.Path.{_≡_}
 use lib.ListN.{take}
 use Rattle.draw.proofs.Decided.{ranked-sound, lots, answer-is, confirms}
 use Rattle.draw.proofs.decisions.rank_and_walk.Needs as need

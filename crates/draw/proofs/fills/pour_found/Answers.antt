@@ -1,4 +1,4 @@
-use mathlib.Core.Path.{_≡_, sym, ap}
+use mathlib.Core.Path.{sym, ap}
 use mathlib.Core.List.{map}
 use Rattle.std.specs.declared.option.Option.{Option}
 use Rattle.units.specs.declared.Quantity.{Quantity}

@@ -1,8 +1,8 @@
-use mathlib.Core.Path.{_≡_, refl, sym, ap, _∙_}
+use mathlib.Core.Path.{refl, ap, _∙_}
 use mathlib.Core.List.{[]}
-use Prim.Native.Nat.{ℕ, _+_, _≤_, _<_}
+use Prim.Native.Nat.{_<_}
 use native.Mathlib.Omega.{arith}
-use lib.ListN.{length, drop}
+use lib.ListN.{length}
 use Rattle.ranked.proofs.Writing.{writes-none, writes-as, writes-more}
 use Rattle.draw.specs.Fills.{fills}
 use Rattle.draw.proofs.Pouring.{fills-none, fills-more, fills-end, all-written, one-written, fills-up}
