@@ -2,7 +2,7 @@
 use Prim.Native.Nat.{ℕ, _+_, _-_, _*_, _%_, _≤_, min}
 use native.Mathlib.Nat.{mul-add, mul-zero, zero-add, zero-min, zero-sub}
 use native.Mathlib.Omega.{arith}
-use mathlib.Core.Path.{_≡_, refl, sym, ap, subst, _∙_}
+use mathlib.Core.Path.{_≡_, refl, sym, ap, ap₂, subst, _∙_}
 use mathlib.Core.Bool.{false}
 use mathlib.Core.List.{List, [], _∷_}
 use Rattle.std.specs.shelf.Lists.{All, sumBy}
@@ -136,7 +136,7 @@ all-both P Q R f (x ∷ xs) p q = (f x (p .0) (q .0), all-both P Q R f xs (p .1)
 
 pub sumBy-same : {X : Type 0} (f g : X → ℕ) (xs : List X) → All (λ x. f x ≡ g x) xs → sumBy f xs ≡ sumBy g xs
 sumBy-same f g [] a = refl
-sumBy-same f g (x ∷ xs) a = rw (sumBy-cons, sumBy-cons) (let h = sumBy-same f g xs (a .1) in omega (arith, a .0))
+sumBy-same f g (x ∷ xs) a = sumBy-cons f x xs ∙ (ap₂ (λ m n. m + n) (a .0) (sumBy-same f g xs (a .1)) ∙ sym (sumBy-cons g x xs))
 
 -- what it takes of the first offer, and of the others
 poured-first : (o : Eligible) (os : List Eligible) (n : ℕ) → poured (o ∷ os) n (named o) ≡ min n (o .left .0)

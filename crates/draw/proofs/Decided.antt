@@ -2,7 +2,7 @@
 use Prim.Native.Nat.{ℕ, _*_, _≤_, _<_}
 use native.Mathlib.Omega.{arith}
 use mathlib.Core.Path.{_≡_, sym, ap, ap₂, subst, _∙_}
-use mathlib.Core.Bool.{Bool, true}
+use mathlib.Core.Bool.{Bool, true, false, cond}
 use mathlib.Core.List.{List}
 use Rattle.std.specs.shelf.Lists.{All}
 use Rattle.std.specs.Slices.{Shuffled}
@@ -27,6 +27,13 @@ use Rattle.draw.proofs.Orders.{request-order, request-better}
 use Rattle.draw.proofs.Bounds.{lot-bounds, quantity-bounds, sound-whole}
 use Rattle.draw.specs.Sides.{NoWorse}
 use Rattle.draw.proofs.Finds.{Priced, Lots, same-size, same-money, poured-size, poured-best, walk-decides, decides-alike, automatic-good, good-automatic}
+
+-- a list that is ranked under a condition
+pub unless : (b : Bool) (xs ys : List Eligible) → b ≡ false → ys ≡ cond b xs ys
+unless b xs ys e = sym (cond-false b xs ys e)
+
+pub where-so : (b : Bool) (xs ys zs : List Eligible) → b ≡ true → zs ≡ xs → zs ≡ cond b xs ys
+where-so b xs ys zs e h = h ∙ sym (cond-true b xs ys e)
 
 -- the request ranking meets what best terms rest on
 pub request-priced : (s : Side) (os : List Eligible) → Apart named os → Priced s (request-before s) os
