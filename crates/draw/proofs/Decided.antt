@@ -16,15 +16,15 @@ use Rattle.units.specs.declared.Quantity.{Quantity}
 use Rattle.units.specs.declared.Money.{Money}
 use Rattle.ranked.specs.Lists.{Apart, ranked}
 use Rattle.ranked.proofs.Placing.{ranked-shuffled}
-use Rattle.ranked.proofs.Sorting.{any-order}
+use Rattle.ranked.proofs.Sorting.{any-order, apart-shuffled}
 use Rattle.draw.specs.declared.offers.Eligible.{Eligible}
-use Rattle.draw.specs.Offers.{Sound, named}
+use Rattle.draw.specs.Offers.{Ready, Pourable, Sound, named}
 use Rattle.draw.specs.Rankings.{request-before}
 use Rattle.draw.specs.Draws.{money, totals, Good, Decides, poured}
 use Rattle.draw.specs.Walk.{walk, answered, decided}
 use Rattle.draw.specs.Decisions.{Confirms, Serves, Shows, automatic}
 use Rattle.draw.proofs.Orders.{request-order, request-better}
-use Rattle.draw.proofs.Bounds.{lot-bounds, quantity-bounds, sound-whole}
+use Rattle.draw.proofs.Bounds.{lot-bounds, quantity-bounds, sound-whole, sound-some}
 use Rattle.draw.specs.Sides.{NoWorse}
 use Rattle.draw.proofs.Finds.{Priced, Lots, same-size, same-money, poured-size, poured-best, walk-decides, decides-alike, automatic-good, good-automatic}
 
@@ -45,6 +45,14 @@ ranked-sound before lot os rs e a = subst (All (Sound lot)) (sym e) (all-shuffle
 
 pub lots : (lot most : ℕ) (os : List Eligible) → is-lot lot ≡ true → is-quantity lot most ≡ true → All (Sound lot) os → Lots lot most os
 lots lot most os l q a = record { some = (let b = lot-bounds lot l .0 in omega arith); whole-most = quantity-bounds lot most q .2; whole = sound-whole lot os a }
+
+pub ready-pourable : (lot most : ℕ) (os : List Eligible) → Ready lot most os → Pourable os
+ready-pourable lot most os r = record { apart = r .apart; some = sound-some lot os (r .sound) }
+
+pub ranked-pourable : (before : Eligible → Eligible → Bool) (lot most : ℕ) (os rs : List Eligible) → rs ≡ ranked before os → Ready lot most os → Pourable rs
+ranked-pourable before lot most os rs e r =
+    subst Pourable (sym e)
+    record { apart = apart-shuffled named os (ranked before os) (ranked-shuffled before os) (r .apart); some = all-shuffled _ os (ranked before os) (ranked-shuffled before os) (sound-some lot os (r .sound)) }
 
 -- the answer to what the code's walk came to
 pub answer-is : (s s′ : Side) (lot price least most : ℕ) (rs rs′ : List Eligible) (n m : ℕ) (r : Option (Quantity × Money)) → r ≡ answered least (n, m) →

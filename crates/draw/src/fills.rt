@@ -3,11 +3,9 @@ ghost use mathlib.Core.Path.{_≡_};
 ghost use mathlib.Core.List.{map};
 ghost use Prim.Native.Nat.{ℕ, _+_, _<_, _≤_, min};
 ghost use lib.ListN.{length};
-ghost use Rattle.std.specs.shelf.Lists.{All};
-ghost use Rattle.ranked.specs.Lists.{Apart};
 ghost use Rattle.ranked.specs.Writes.{Writes};
 ghost use Rattle.draw.specs.declared.fills.Fill.{Fill};
-ghost use Rattle.draw.specs.Offers.{named};
+ghost use Rattle.draw.specs.Offers.{Pourable};
 ghost use Rattle.draw.specs.Fills.{fills, traded, Fills-up, FairConfirmation, FairTurn};
 use super::Eligible;
 use units::Money;
@@ -51,8 +49,7 @@ fn write_fills<W: TellsFill + Copy>(
     at: usize,
 ) -> usize
     requires places { ⌜ at + length (now offers) ≤ length (now out) ⌝ }
-    requires apart { ⌜ Apart named (now offers) ⌝ }
-    requires some { ⌜ All (λ o. 0 < o .left .0) (now offers) ⌝ }
+    requires offers { ⌜ Pourable (now offers) ⌝ }
     ensures written { λ r. ⌜ Writes (now (out .entry)) (now (out .exit)) at r (map (tells (taker .0)) (fills (now (offers .entry)) (n .0))) ⌝ }
     ensures draw { λ _. ⌜ Fills-up (now (offers .entry)) (n .0) (fills (now (offers .entry)) (n .0)) ⌝ }
     ensures few { λ r. ⌜ r ≤ at + length (now (offers .entry)) ⌝ }
@@ -80,8 +77,7 @@ pub fn pour<W: TellsFill + Copy>(
     at: usize,
 ) -> usize
     requires places { ⌜ at + length (now offers) ≤ length (now out) ⌝ }
-    requires apart { ⌜ Apart named (now offers) ⌝ }
-    requires some { ⌜ All (λ o. 0 < o .left .0) (now offers) ⌝ }
+    requires offers { ⌜ Pourable (now offers) ⌝ }
     ensures written { λ r. ⌜ Writes (now (out .entry)) (now (out .exit)) at r (map (tells (taker .0)) (fills (now (offers .entry)) (n .0))) ⌝ }
     ensures draw { λ _. ⌜ Fills-up (now (offers .entry)) (n .0) (fills (now (offers .entry)) (n .0)) ⌝ }
     ensures few { λ r. ⌜ r ≤ at + length (now (offers .entry)) ⌝ }
@@ -98,8 +94,7 @@ fn pour_found<W: TellsFill + Copy>(
     at: usize,
 ) -> usize
     requires places { ⌜ at + length (now offers) ≤ length (now out) ⌝ }
-    requires apart { ⌜ Apart named (now offers) ⌝ }
-    requires some { ⌜ All (λ o. 0 < o .left .0) (now offers) ⌝ }
+    requires offers { ⌜ Pourable (now offers) ⌝ }
     ensures written { λ r. ⌜ Writes (now (out .entry)) (now (out .exit)) at r (map (tells (taker .0)) (traded (now (offers .entry)) found)) ⌝ }
     ensures confirmed { λ _. ⌜ FairConfirmation (now (offers .entry)) found ⌝ }
     ensures served { λ _. ⌜ FairTurn (now (offers .entry)) found ⌝ }
@@ -120,8 +115,7 @@ pub fn execute<W: TellsFill + Copy>(
     at: usize,
 ) -> usize
     requires places { ⌜ at + length (now offers) ≤ length (now out) ⌝ }
-    requires apart { ⌜ Apart named (now offers) ⌝ }
-    requires some { ⌜ All (λ o. 0 < o .left .0) (now offers) ⌝ }
+    requires offers { ⌜ Pourable (now offers) ⌝ }
     ensures written { λ r. ⌜ Writes (now (out .entry)) (now (out .exit)) at r (map (tells (taker .0)) (traded (now (offers .entry)) found)) ⌝ }
     ensures confirmed { λ _. ⌜ FairConfirmation (now (offers .entry)) found ⌝ }
     ensures served { λ _. ⌜ FairTurn (now (offers .entry)) found ⌝ }

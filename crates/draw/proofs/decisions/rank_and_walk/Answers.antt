@@ -1,6 +1,6 @@
 use lib.ListN.{take}
 use Rattle.ranked.specs.Lists.{ranked}
-use Rattle.draw.proofs.Decided.{ranked-sound, lots, answer-is, confirms}
+use Rattle.draw.proofs.Decided.{ranked-sound, ranked-pourable, lots, answer-is, confirms}
 use Rattle.draw.proofs.decisions.rank_and_walk.Needs as need
 
 pub walk-requires : need.walk-requires
@@ -21,4 +21,5 @@ returns g c =
           (answer-is (g .R·OfferRanking .favours (c .args .rule .now)) (c .side .result) (c .args .lot .0) (c .args .price .0) (c .args .least .0) (c .args .most .0) (ranked (g .R·Ranking .before (c .args .rule .now)) os) (take (c .args .n) (c .rank .last .records)) (c .walk .result .0 .0) (c .walk .result .1 .0) (c .answer .result) (c .answer .ensures) (c .walk .ensures .size) (c .walk .ensures .money) (c .side .ensures) (c .rank .ensures .first));
       first = c .rank .ensures .first;
       rest = c .rank .ensures .rest;
+      pourable = ranked-pourable (g .R·Ranking .before (c .args .rule .now)) (c .args .lot .0) (c .args .most .0) os (take (c .args .n) (c .rank .last .records)) (c .rank .ensures .first) (c .pre .ready);
     }

@@ -6,7 +6,7 @@ use lib.ListN.{take}
 use Rattle.std.proofs.shelf.Tests.{leb-true, leb-false, not-true, not-false}
 use Rattle.ranked.specs.Lists.{ranked}
 use Rattle.draw.proofs.Bounds.{quantity-bounds}
-use Rattle.draw.proofs.Decided.{unless, where-so, serves, serves-none}
+use Rattle.draw.proofs.Decided.{ready-pourable, unless, where-so, serves, serves-none}
 use Rattle.draw.proofs.decisions.serve.Needs as need
 
 pub returns-then-too-few : need.returns-then-too-few
@@ -18,6 +18,7 @@ returns-then-too-few g c =
           (c .args .lot .0) (c .args .limit .0) (c .args .quantity .0) (c .args .least-firms .0) (c .args .firms .0) (leb-false (c .args .least-firms .0) (c .args .firms .0) few);
       first = unless (leb (c .args .least-firms .0) (c .args .firms .0)) (ranked (g .R·Ranking .before (c .args .rule .now)) (take (c .args .n) (c .args .offers .now))) (take (c .args .n) (c .args .offers .now)) few;
       rest = refl;
+      pourable = ready-pourable (c .args .lot .0) (c .args .quantity .0) (take (c .args .n) (c .args .offers .now)) (c .pre .ready);
     }
 
 pub returns : need.returns
@@ -30,4 +31,5 @@ returns g c =
           (let b = quantity-bounds (c .args .lot .0) (c .args .quantity .0) (c .pre .ready .fits) .0 in omega arith) (c .rank-and-walk .result) (leb-true (c .args .least-firms .0) (c .args .firms .0) many) (c .rank-and-walk .ensures .result);
       first = where-so (leb (c .args .least-firms .0) (c .args .firms .0)) (ranked (g .R·Ranking .before (c .args .rule .now)) (take (c .args .n) (c .args .offers .now))) (take (c .args .n) (c .args .offers .now)) (take (c .args .n) (c .rank-and-walk .last .offers)) many (c .rank-and-walk .ensures .first);
       rest = c .rank-and-walk .ensures .rest;
+      pourable = c .rank-and-walk .ensures .pourable;
     }

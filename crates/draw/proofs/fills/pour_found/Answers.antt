@@ -11,7 +11,7 @@ use Rattle.draw.proofs.fills.pour_found.Needs as need
 pub returns-in-Some : need.returns-in-Some
 returns-in-Some g c = record {
   written = writes-as (ap (λ (v : Option (Quantity × Money)). map (g .W·TellsFill .tells (c .args .taker .0)) (traded (c .args .offers .now) v)) (sym (c .in-Some .is))) (c .pour .ensures .written);
-  confirmed = fair-confirmation (c .args .offers .now) (c .args .found) (c .pre .apart) (c .pre .some);
-  served = fair-turn (c .args .offers .now) (c .args .found) (c .pre .apart) (c .pre .some);
+  confirmed = fair-confirmation (c .args .offers .now) (c .args .found) (c .pre .offers .apart) (c .pre .offers .some);
+  served = fair-turn (c .args .offers .now) (c .args .found) (c .pre .offers .apart) (c .pre .offers .some);
   few = c .pour .ensures .few;
 }

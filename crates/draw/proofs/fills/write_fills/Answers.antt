@@ -16,7 +16,7 @@ pub returns-then-rest-eq0 : need.returns-then-rest-eq0
 returns-then-rest-eq0 g c =
     record {
       written = writes-as (all-written (g .W·TellsFill .tells (c .args .taker .0)) (c .loop-o .inv .0) _ _ (ap (fills _) (c .if-rest-eq0 .taken) ∙ fills-none _) (c .loop-o .inv .2)) (c .loop-o .inv .1);
-      draw = fills-up (c .args .offers .now) (c .args .n .0) (c .pre .apart) (c .pre .some);
+      draw = fills-up (c .args .offers .now) (c .args .n .0) (c .pre .offers .apart) (c .pre .offers .some);
       few = omega (arith, c .loop-o .inv .3, c .loop-o .kept);
     }
 
@@ -34,6 +34,6 @@ pub returns : need.returns
 returns g c =
     record {
       written = writes-as (all-written (g .W·TellsFill .tells (c .args .taker .0)) (c .loop-o .inv .0) _ _ (fills-end (c .args .offers .now) (c .loop-o .o-index) (c .loop-o .rest .0) (c .loop-o-test .left)) (c .loop-o .inv .2)) (c .loop-o .inv .1);
-      draw = fills-up (c .args .offers .now) (c .args .n .0) (c .pre .apart) (c .pre .some);
+      draw = fills-up (c .args .offers .now) (c .args .n .0) (c .pre .offers .apart) (c .pre .offers .some);
       few = omega (arith, c .loop-o .inv .3, c .loop-o .kept);
     }
