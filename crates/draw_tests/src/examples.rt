@@ -14,6 +14,8 @@ use draw::RequestRankingOffers;
 use draw::TellsFill;
 use draw::count_firms;
 use draw::decide;
+use draw::decide_automatic;
+use draw::execute;
 use draw::pour;
 use draw::share;
 use draw::shown_price;
@@ -255,6 +257,114 @@ fn confirms_at_a_price() -> Result<(), Fail> {
     )?;
     check_eq(totals(confirm(Price(991), Quantity(4450))), (0, 0))?;
     check_eq(totals(confirm_selling(Price(995))), (2000, 1_990_000))
+}
+
+// What request 2 trades at 991, as reports.
+fn trade() -> [Told; 4] {
+    let mut offers = [
+        Eligible {
+            number: Number(4),
+            firm: Firm(3),
+            price: Price(1000),
+            left: Quantity(5000),
+            is_answer: true,
+        },
+        Eligible {
+            number: Number(3),
+            firm: Firm(2),
+            price: Price(990),
+            left: Quantity(2000),
+            is_answer: true,
+        },
+        Eligible {
+            number: Number(1),
+            firm: Firm(4),
+            price: Price(980),
+            left: Quantity(1000),
+            is_answer: false,
+        },
+    ];
+    let mut out = [Told {
+        taker: 0,
+        maker: 0,
+        quantity: 0,
+    }; 4];
+    let found = decide(
+        &RequestRanking { side: Side::Buy },
+        &mut offers,
+        3,
+        Lot(10),
+        Price(991),
+        Quantity(0),
+        Quantity(5000),
+    );
+    let _ = execute(&offers[..3], found, Number(2), &mut out, 0);
+    out
+}
+
+#[test]
+fn carries_out_a_decision() -> Result<(), Fail> {
+    let out = trade();
+    check_eq(
+        [out[0].maker, out[1].maker, out[2].maker, out[3].maker],
+        [1, 3, 4, 0],
+    )?;
+    check_eq(
+        [
+            out[0].quantity,
+            out[1].quantity,
+            out[2].quantity,
+            out[3].quantity,
+        ],
+        [1000, 2000, 1440, 0],
+    )?;
+    check_eq([out[0].taker, out[2].taker, out[3].taker], [2, 2, 0])
+}
+
+// What a turn of an automatic request for 5,000 trades, where answers come from two firms.
+fn turn(limit: Price, least: FirmCount) -> Option<(Quantity, Money)>
+    requires { ⌜ is-price (limit .0) ≡ true ⌝ }
+{
+    let mut offers = [
+        Eligible {
+            number: Number(1),
+            firm: Firm(4),
+            price: Price(980),
+            left: Quantity(1000),
+            is_answer: false,
+        },
+        Eligible {
+            number: Number(3),
+            firm: Firm(2),
+            price: Price(990),
+            left: Quantity(2000),
+            is_answer: true,
+        },
+        Eligible {
+            number: Number(4),
+            firm: Firm(3),
+            price: Price(1000),
+            left: Quantity(5000),
+            is_answer: true,
+        },
+    ];
+    decide_automatic(
+        &RequestRanking { side: Side::Buy },
+        &mut offers,
+        3,
+        Lot(10),
+        limit,
+        Quantity(5000),
+        least,
+        FirmCount(2),
+    )
+}
+
+#[test]
+fn serves_an_automatic_request() -> Result<(), Fail> {
+    check_eq(totals(turn(Price(992), FirmCount(2))), (5000, 4_960_000))?;
+    check_eq(totals(turn(Price(991), FirmCount(2))), (0, 0))?;
+    check_eq(totals(turn(Price(992), FirmCount(3))), (0, 0))
 }
 
 #[test]
