@@ -1,11 +1,12 @@
 -- Fills, and the draw that they make up.
 use Prim.Native.Nat.{ℕ, _-_, _*_, _<_, min}
 use mathlib.Core.Path.{_≡_}
-use mathlib.Core.Bool.{Bool, cond}
+use mathlib.Core.Bool.{Bool, true, cond}
 use mathlib.Core.List.{List, [], _∷_, map}
 use lib.Dec.{eqb}
 use lib.ListN.{length, take}
 use Rattle.std.specs.shelf.Lists.{All, sumBy}
+use Rattle.std.specs.Options.{isSome}
 use Rattle.std.specs.declared.option.Option.{Option}
 use Rattle.std.specs.declared.option.Option.the-variants.{Some, None}
 use Rattle.units.specs.declared.side.Side.{Side}
@@ -64,8 +65,8 @@ FairConfirmation rs found =
     (s : Side) (before : Eligible → Eligible → Bool) (lot price least most : ℕ) (os : List Eligible) → rs ≡ ranked before os →
     Confirms s before lot price least most os found → Fair s before os (Good s lot price least most os) (traded rs found)
 
--- or a turn of an automatic request
+-- or a turn of an automatic request, which ranks them only where there are enough firms
 abbrev pub FairTurn : List Eligible → Option (Quantity × Money) → Type 0
 FairTurn rs found =
-    (s : Side) (before : Eligible → Eligible → Bool) (lot limit quantity least-firms firms : ℕ) (os : List Eligible) → 0 < quantity → rs ≡ ranked before os →
+    (s : Side) (before : Eligible → Eligible → Bool) (lot limit quantity least-firms firms : ℕ) (os : List Eligible) → 0 < quantity → (isSome found ≡ true → rs ≡ ranked before os) →
     Serves s before lot limit quantity least-firms firms os found → Fair s before os (GoodAutomatic s lot limit quantity least-firms firms os) (traded rs found)

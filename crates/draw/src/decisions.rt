@@ -4,6 +4,7 @@ ghost use mathlib.Core.Bool.{true, cond, not};
 ghost use Prim.Native.Nat.{_≤_};
 ghost use lib.Dec.{leb};
 ghost use lib.ListN.{length, take, drop};
+ghost use Rattle.std.specs.Options.{isSome};
 ghost use Rattle.std.specs.shelf.Lists.{All};
 ghost use Rattle.units.specs.Ranges.{is-price};
 ghost use Rattle.ranked.specs.Lists.{Apart, ranked};
@@ -98,6 +99,7 @@ fn serve<R: OfferRanking>(
     requires price { ⌜ is-price (limit .0) ≡ true ⌝ }
     ensures result { λ r. ⌜ Serves (favours (now (rule .entry))) (R·Ranking .before (now (rule .entry))) (lot .0) (limit .0) (quantity .0) («least_firms» .0) (firms .0) (take n (now (offers .entry))) r ⌝ }
     ensures first { λ _. ⌜ take n (now (offers .exit)) ≡ cond (leb («least_firms» .0) (firms .0)) (ranked (R·Ranking .before (now (rule .entry))) (take n (now (offers .entry)))) (take n (now (offers .entry))) ⌝ }
+    ensures found { λ r. ⌜ (isSome r ≡ true → take n (now (offers .exit)) ≡ ranked (R·Ranking .before (now (rule .entry))) (take n (now (offers .entry)))) ⌝ }
     ensures rest { λ _. ⌜ drop n (now (offers .exit)) ≡ drop n (now (offers .entry)) ⌝ }
     ensures pourable { λ _. ⌜ Pourable (take n (now (offers .exit))) ⌝ }
 {
@@ -123,6 +125,7 @@ pub fn decide_automatic<R: OfferRanking>(
     requires price { ⌜ is-price (limit .0) ≡ true ⌝ }
     ensures result { λ r. ⌜ Serves (favours (now (rule .entry))) (R·Ranking .before (now (rule .entry))) (lot .0) (limit .0) (quantity .0) («least_firms» .0) (firms .0) (take n (now (offers .entry))) r ⌝ }
     ensures first { λ _. ⌜ take n (now (offers .exit)) ≡ cond (leb («least_firms» .0) (firms .0)) (ranked (R·Ranking .before (now (rule .entry))) (take n (now (offers .entry)))) (take n (now (offers .entry))) ⌝ }
+    ensures found { λ r. ⌜ (isSome r ≡ true → take n (now (offers .exit)) ≡ ranked (R·Ranking .before (now (rule .entry))) (take n (now (offers .entry)))) ⌝ }
     ensures rest { λ _. ⌜ drop n (now (offers .exit)) ≡ drop n (now (offers .entry)) ⌝ }
     ensures pourable { λ _. ⌜ Pourable (take n (now (offers .exit))) ⌝ }
 {
