@@ -1,0 +1,36 @@
+// What a request may draw on, in which order, and the draw that trades.
+mod decisions;
+mod examples;
+mod fills;
+mod firms;
+mod offers;
+mod priced;
+mod prices;
+mod rankings;
+mod shares;
+mod walk;
+
+pub use decisions::decide;
+pub use decisions::decide_automatic;
+pub use decisions::total_status;
+pub use examples::worked_examples;
+pub use fills::Fill;
+pub use fills::TellsFill;
+pub use fills::execute;
+pub use fills::pour;
+pub use firms::Answering;
+pub use firms::count_firms;
+pub use offers::Eligible;
+pub use offers::EligibleNamed;
+pub use offers::Offered;
+pub use offers::Source;
+pub use offers::Taker;
+pub use offers::admit;
+pub use priced::OfferRanking;
+pub use priced::RequestRankingByPrice;
+pub use prices::shown_price;
+pub use rankings::RequestRanking;
+pub use rankings::RequestRankingOffers;
+pub use rankings::TradingRanking;
+pub use rankings::TradingRankingOffers;
+pub use shares::share;
