@@ -7,3 +7,5 @@ pub mod Steps
 pub mod Finds
 pub mod Decided
 pub mod Pouring
+pub mod Counting
+pub mod Marks

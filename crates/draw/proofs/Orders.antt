@@ -1,5 +1,9 @@
 -- Each ranking of offers is an order without ties, and puts the better price first.
+use mathlib.Core.Path.{_≡_, ap}
+use mathlib.Core.Bool.{true, not, _||_, _&&_}
 use Rattle.std.specs.Slices.{Ranks}
+use Rattle.ranked.specs.Orders.{lower, then-by}
+use Rattle.draw.specs.declared.offers.Eligible.{Eligible}
 use Rattle.ranked.specs.Lists.{Order}
 use Rattle.ranked.proofs.Orders.{lower-ranks, higher-ranks, those-ranks, then-order, lower-order}
 use Rattle.units.specs.declared.side.Side.{Side}
@@ -16,3 +20,6 @@ request-order s = then-order (better-price s) _ (better-ranks s) named (then-ord
 
 pub trading-order : (s : Side) → Order (trading-before s) named
 trading-order s = then-order (better-price s) _ (better-ranks s) named (lower-order named)
+
+pub request-better : (s : Side) (x y : Eligible) → better-price s x y ≡ true → request-before s x y ≡ true
+request-better s x y e = ap (λ b. b || (not (better-price s y x) && then-by answers-first (then-by more-left (lower named)) x y)) e

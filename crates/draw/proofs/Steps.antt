@@ -1,4 +1,4 @@
--- The walk by places: one offer more, the offer at which it stops, and the end; and what keeps its totals in range.
+-- The walk, the first units and the draw by places: one offer more, the offer at which they stop, and the end; and what keeps totals in range.
 use Prim.Native.Nat.{ℕ, _+_, _-_, _*_, _≤_, _<_, min}
 use native.Mathlib.Nat.{mul-le-mul-right, mul-pos}
 use native.Mathlib.Numerals.{add-one}
@@ -8,13 +8,19 @@ use mathlib.Core.Bool.{Bool, true, false, cond}
 use mathlib.Core.List.{List, [], _∷_}
 use lib.ListN.{length, getD, drop}
 use Rattle.std.proofs.shelf.Lists.{drop-more, drop-all}
-use Rattle.std.proofs.shelf.Tests.{cond-true, cond-false}
+use Rattle.std.proofs.shelf.Tests.{cond-true, cond-false, eq-eqb, ne-eqb}
 use Rattle.draw.specs.Sides.{NoWorse, no-worse}
+use Rattle.draw.specs.Offers.{named}
+use Rattle.draw.specs.Draws.{poured}
 use Rattle.draw.specs.Walk.{gap, room, part, fitting, walk}
 use Rattle.draw.proofs.Sides.{test-false, apart, part-room}
 use Rattle.draw.proofs.Cost.{cost, held}
 use Rattle.draw.specs.declared.offers.Eligible.{Eligible}
 use Rattle.units.specs.declared.side.Side.{Side}
+
+-- what is read past the end of a list
+abbrev pub nothing : Eligible
+nothing = record { number = record { 0 = 0 }; firm = record { 0 = 0 }; price = record { 0 = 0 }; left = record { 0 = 0 }; «is_answer» = false }
 
 module _ (s : Side) (lot price most : ℕ) (os : List Eligible) (i : ℕ) (d : Eligible) (n m : ℕ) where
   abbrev o : Eligible
@@ -87,3 +93,14 @@ first-more most os i d n m t N M l small et eN eM =
 pub first-end : (most : ℕ) (os : List Eligible) (i n m : ℕ) → length os ≤ i → (n ≡ n + min (most - n) (held (drop i os))) × (m ≡ m + cost (drop i os) (most - n))
 unfolding cost held
 first-end most os i n m l = rw (drop-all i os l) (omega arith, omega arith)
+
+-- the draw that empties offers by places: the offer of the number, an offer before it, and the end
+pub poured-here : (os : List Eligible) (i : ℕ) (d : Eligible) (n k : ℕ) → i < length os → named (getD os i d) ≡ k → poured (drop i os) n k ≡ min n (getD os i d .left .0)
+poured-here os i d n k l e = ap (λ (v : List Eligible). poured v n k) (drop-more os i d l) ∙ cond-true _ _ _ (eq-eqb k (named (getD os i d)) (sym e))
+
+pub poured-more : (os : List Eligible) (i : ℕ) (d : Eligible) (n k rest : ℕ) → i < length os → (named (getD os i d) ≡ k → ⊥) → rest ≡ n - getD os i d .left .0 → poured (drop (i + 1) os) rest k ≡ poured (drop i os) n k
+poured-more os i d n k rest l ne e =
+    ap (λ v. poured (drop (i + 1) os) v k) e ∙ sym (ap (λ (v : List Eligible). poured v n k) (drop-more os i d l) ∙ cond-false _ _ _ (ne-eqb k (named (getD os i d)) (λ h. ne (sym h))))
+
+pub poured-end : (os : List Eligible) (i n k : ℕ) → length os ≤ i → poured (drop i os) n k ≡ 0
+poured-end os i n k l = rw (drop-all i os l)

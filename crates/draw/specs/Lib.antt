@@ -5,3 +5,6 @@ pub mod Draws
 pub mod Walk
 pub mod Decisions
 pub mod Fills
+pub mod Prices
+pub mod Firms
+pub mod Examples

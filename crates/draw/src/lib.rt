@@ -1,8 +1,12 @@
 // What a request may draw on, in which order, and the draw that trades.
 mod decisions;
+mod examples;
 mod fills;
+mod firms;
 mod offers;
+mod prices;
 mod rankings;
+mod shares;
 mod walk;
 
 pub use decisions::decide;
@@ -13,10 +17,14 @@ pub use offers::EligibleNamed;
 pub use offers::Offered;
 pub use offers::Source;
 pub use offers::Taker;
+pub use prices::shown_price;
+pub use examples::worked_examples;
 pub use fills::Fill;
 pub use fills::FillTellsFill;
 pub use fills::pour;
 pub use fills::TellsFill;
+pub use firms::Answering;
+pub use firms::count_firms;
 pub use offers::admit;
 pub use rankings::OfferRanking;
 pub use rankings::RequestRanking;
@@ -25,3 +33,4 @@ pub use rankings::RequestRankingOffers;
 pub use rankings::TradingRanking;
 pub use rankings::TradingRankingByPrice;
 pub use rankings::TradingRankingOffers;
+pub use shares::share;

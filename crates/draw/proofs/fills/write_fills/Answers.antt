@@ -1,17 +1,13 @@
 use mathlib.Core.Path.{_≡_, refl, sym, ap, _∙_}
 use mathlib.Core.List.{[]}
-use mathlib.Core.Bool.{false}
 use Prim.Native.Nat.{ℕ, _+_, _≤_, _<_}
 use native.Mathlib.Omega.{arith}
 use lib.ListN.{length, drop}
 use Rattle.ranked.proofs.Writing.{writes-none, writes-as, writes-more}
 use Rattle.draw.specs.Fills.{fills}
-use Rattle.draw.specs.declared.offers.Eligible.{Eligible}
 use Rattle.draw.proofs.Pouring.{fills-none, fills-more, fills-end, all-written, one-written, fills-up}
+use Rattle.draw.proofs.Steps.{nothing}
 use Rattle.draw.proofs.fills.write_fills.Needs as need
-
-abbrev nothing : Eligible
-nothing = record { number = record { 0 = 0 }; firm = record { 0 = 0 }; price = record { 0 = 0 }; left = record { 0 = 0 }; «is_answer» = false }
 
 pub loop-o-holds : need.loop-o-holds
 loop-o-holds g c = ([], writes-none (c .args .out .now) (c .args .at) (omega arith), refl, omega arith)

@@ -1,19 +1,14 @@
 use Prim.Native.Nat.{ℕ, _+_, _-_, _*_, _≤_, _<_, min}
 use native.Mathlib.Omega.{arith}
 use mathlib.Core.Path.{_≡_, sym, ap, ap₂, _∙_}
-use mathlib.Core.Bool.{false}
 use lib.ListN.{getD, drop}
 use Rattle.std.proofs.shelf.Elements.{all-getD}
 use Rattle.ranked.proofs.Sorting.{distinct-from-apart}
 use Rattle.draw.specs.Offers.{named}
-use Rattle.draw.specs.declared.offers.Eligible.{Eligible}
 use Rattle.draw.proofs.Bounds.{price-bounds}
 use Rattle.draw.proofs.Cost.{poured-totals}
-use Rattle.draw.proofs.Steps.{first-more, first-end, grown}
+use Rattle.draw.proofs.Steps.{nothing, first-more, first-end, grown}
 use Rattle.draw.proofs.walk.first_units.Needs as need
-
-abbrev nothing : Eligible
-nothing = record { number = record { 0 = 0 }; firm = record { 0 = 0 }; price = record { 0 = 0 }; left = record { 0 = 0 }; «is_answer» = false }
 
 pub with-totals-requires : need.with-totals-requires
 with-totals-requires c κs =

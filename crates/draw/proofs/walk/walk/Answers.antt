@@ -1,16 +1,11 @@
 use Prim.Native.Nat.{ℕ, _+_, _*_, _≤_, _<_}
 use native.Mathlib.Omega.{arith}
 use mathlib.Core.Path.{_≡_, sym, ap, _∙_}
-use mathlib.Core.Bool.{false}
 use lib.ListN.{getD}
-use Rattle.draw.specs.declared.offers.Eligible.{Eligible}
 use Rattle.draw.proofs.Bounds.{price-at, quantity-bounds, lot-bounds}
 use Rattle.draw.proofs.Sides.{test-true}
-use Rattle.draw.proofs.Steps.{walk-end, turn-more, turn-stop, turn-part, grown}
+use Rattle.draw.proofs.Steps.{nothing, walk-end, turn-more, turn-stop, turn-part, grown}
 use Rattle.draw.proofs.walk.walk.Needs as need
-
-abbrev nothing : Eligible
-nothing = record { number = record { 0 = 0 }; firm = record { 0 = 0 }; price = record { 0 = 0 }; left = record { 0 = 0 }; «is_answer» = false }
 
 pub with-all-requires : need.with-all-requires
 with-all-requires c κs =
