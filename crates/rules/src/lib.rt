@@ -1,0 +1,13 @@
+// The rules of the market: what it holds and reports as plain data, what each message does to it (specs/), and the law that every run of it keeps.
+mod records;
+mod reports;
+mod theorems;
+
+pub use records::Answer;
+pub use records::Request;
+pub use records::Terms;
+pub use reports::Accepted;
+pub use reports::KillReason;
+pub use reports::Report;
+pub use reports::Status;
+pub use theorems::examples_come_out;
