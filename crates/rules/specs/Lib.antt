@@ -12,5 +12,6 @@ pub mod Law
 pub mod Run
 -- What stands under both: worked examples, room for reports, and the way from a book to the step.
 pub mod Examples
+pub mod Bite
 pub mod Room
 pub mod Takes

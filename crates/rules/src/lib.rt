@@ -10,4 +10,7 @@ pub use reports::Accepted;
 pub use reports::KillReason;
 pub use reports::Report;
 pub use reports::Status;
+pub use theorems::engines_can_follow;
 pub use theorems::examples_come_out;
+pub use theorems::runs_are_lawful;
+pub use theorems::the_law_bites;

@@ -1,11 +1,42 @@
 // The theorems of this crate, each carried by a function that is named as its sentence.
+ghost use Rattle.rules.specs.Bite.{NoChoice, OneHistory, BadBreaks, KeptBookBreaks, TraceBreaks};
 ghost use Rattle.rules.specs.Examples.{Marked, CanBeReached, InTableOrder};
+ghost use Rattle.rules.specs.Room.{RoomForReports};
+ghost use Rattle.rules.specs.Run.{StepIsLawful, OpeningIsLawful};
+ghost use Rattle.rules.specs.Takes.{BookDoes};
 
 // The worked examples, of the definitions; every message's checks run in the order of their numbers; and any calls lead somewhere.
 pub fn examples_come_out() -> u8
     ensures examples { λ _. ⌜ Marked ⌝ }
     ensures order { λ _. ⌜ InTableOrder ⌝ }
     ensures reached { λ _. ⌜ CanBeReached ⌝ }
+{
+    0
+}
+
+// The law of runs holds of every run: of a market newly opened, and of any message after any others.
+pub fn runs_are_lawful() -> u8
+    ensures opening { λ _. ⌜ OpeningIsLawful ⌝ }
+    ensures step { λ _. ⌜ StepIsLawful ⌝ }
+{
+    0
+}
+
+// The law leaves no choice, and wrong engines break it.
+pub fn the_law_bites() -> u8
+    ensures choice { λ _. ⌜ NoChoice ⌝ }
+    ensures history { λ _. ⌜ OneHistory ⌝ }
+    ensures wrong { λ _. ⌜ BadBreaks ⌝ }
+    ensures book { λ _. ⌜ KeptBookBreaks ⌝ }
+    ensures trace { λ _. ⌜ TraceBreaks ⌝ }
+{
+    0
+}
+
+// What an engine over a book relies on: a take is a fill and a removal a kill, and the reports of a message have room.
+pub fn engines_can_follow() -> u8
+    ensures book { λ _. ⌜ BookDoes ⌝ }
+    ensures room { λ _. ⌜ RoomForReports ⌝ }
 {
     0
 }
