@@ -9,29 +9,30 @@ use Rattle.units.specs.Refusals.{number-of}
 use Rattle.draw.specs.Walk.{walk}
 use Rattle.draw.specs.Fills.{fills}
 use Rattle.rules.specs.declared.reports.Report.{Report}
-use Rattle.rules.specs.State.{State, opened, greatest}
+use Rattle.rules.specs.State.{State, greatest}
 use Rattle.rules.specs.Reports.{filled, killed, size-of, money-of, remain}
 use Rattle.rules.specs.Calls.{Reply}
 use Rattle.rules.specs.Step.{step, one-by-one}
 use Rattle.rules.specs.History.{History, ledger, time, came-as}
 use Rattle.rules.specs.Law.{Lawful}
-use Rattle.rules.specs.Examples.{seat, sent, play, told-by, history}
+use Rattle.rules.specs.Examples.{sent, played, history}
+use Rattle.rules.specs.Run.{run, recorded}
 use Rattle.rules.specs.Bite.{Bad, BadBreaks, KeptBookBreaks, TraceBreaks, ends-badly, unlooked, best-only, bookless, dear, by-rounding, overstated, answers-first, later-first, stolen, answers-as-firms, first-only, none-served, turned-round, late, early, turns-first, worse-price, later-offer, past-price, passive, number-twice, inert, orphans, refuses-all, accepts-all, other-reason, trace}
-use Rattle.rules.proofs.Marks.{can-be-reached}
+use Rattle.rules.proofs.Marks.{reached}
 use Rattle.rules.proofs.Lawful.{step-is-lawful}
 use Rattle.rules.proofs.Only.{no-choice}
 
 -- what the step replies and reports at the last call
 abbrev right-reply : Bad → Reply
-right-reply b = step (play (opened seat) (b .calls)) (sent (b .last)) .reply
+right-reply b = step (played (b .calls)) (sent (b .last)) .reply
 
 abbrev right-reports : Bad → List Report
-right-reports b = step (play (opened seat) (b .calls)) (sent (b .last)) .reports
+right-reports b = step (played (b .calls)) (sent (b .last)) .reports
 
 same : (b : Bad) (s : State) → Lawful (ends-badly b) s → (right-reply b ≡ b .reply) × (right-reports b ≡ b .reports)
 same b s wrong =
     no-choice (history (b .calls) .opening) (history (b .calls) .events) (sent (b .last)) (right-reply b) (b .reply) (right-reports b) (b .reports)
-    (step-is-lawful (play (opened seat) (b .calls)) (sent (b .last)) (history (b .calls)) (can-be-reached (b .calls)) .1 .each .0) (wrong .each .0)
+    (step-is-lawful (played (b .calls)) (sent (b .last)) (history (b .calls)) (reached (b .calls)) .1 .each .0) (wrong .each .0)
 
 -- by something that differs in the reports, or in the reply
 reports-differ : (f : List Report → ℕ) (b : Bad) (m n : ℕ) → f (right-reports b) ≡ m → f (b .reports) ≡ n → (m ≡ n → ⊥) → (s : State) → Lawful (ends-badly b) s → ⊥
@@ -53,7 +54,7 @@ refusal-in (Ok a) = 0
 refusal-in (Err r) = number-of r
 
 pub bad-breaks : BadBreaks
-unfolding play step one-by-one filled killed size-of money-of remain fills walk greatest number-in size-in refusal-in
+unfolding run step one-by-one filled killed size-of money-of remain fills walk greatest number-in size-in refusal-in
 bad-breaks = (
   reports-differ size-of unlooked 5000 0 refl refl (λ e. omega arith),
   (
@@ -138,9 +139,9 @@ bad-breaks = (
 )
 
 pub kept-book-breaks : KeptBookBreaks
-unfolding play step one-by-one filled killed size-of money-of remain fills walk greatest told-by ledger time
+unfolding run step one-by-one filled killed size-of money-of remain fills walk greatest recorded ledger time
 kept-book-breaks h = let z : _≡_ {A = ℕ} 1 0 = ap (λ (s : State). length (s .book .sells)) (h .holds) in omega arith
 
 pub trace-breaks : TraceBreaks
-unfolding play step one-by-one filled killed size-of money-of remain fills walk greatest told-by ledger time
+unfolding run step one-by-one filled killed size-of money-of remain fills walk greatest recorded ledger time
 trace-breaks h = let z : _≡_ {A = ℕ} 2 1 = ap (λ (s : State). length (s .book .sells)) (h .holds) in omega arith

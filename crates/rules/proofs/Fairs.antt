@@ -150,7 +150,7 @@ module _ (s : State) (r : Request) (d : Side) where
     apart = finds.ranked-apart d (request-before d) on priced
 
     module _ (w : r .left .0 % s .book .lot ≡ 0) (price least : ℕ) where
-      decides : Decides d (request-before d) on (Good d (s .book .lot) price least (r .left .0) on) (decision-at s r d price least)
+      pub decides : Decides d (request-before d) on (Good d (s .book .lot) price least (r .left .0) on) (decision-at s r d price least)
       decides = finds.walk-decides d (request-before d) on priced (s .book .lot) price least (r .left .0) (record { some = g .lot; whole-most = w; whole = on-whole })
 
       pub fair-at : Fair d on (Good d (s .book .lot) price least (r .left .0) on) (fills (ranked-for s r d) (units-of (decision-at s r d price least)))
@@ -161,16 +161,19 @@ module _ (s : State) (r : Request) (d : Side) where
       abbrev GoodHere : Draw → Type 0
       GoodHere = GoodAutomatic d (s .book .lot) limit (r .left .0) least (firms (r .number .0) (s .answers)) on
 
-      pub fair-in-turn : Fair d on GoodHere (fills (ranked-for s r d) (units-of (decision-in-turn s r d limit least)))
-      fair-in-turn = go (leb least (firms (r .number .0) (s .answers))) refl
+      pub decides-in-turn : Decides d (request-before d) on GoodHere (decision-in-turn s r d limit least)
+      decides-in-turn = go (leb least (firms (r .number .0) (s .answers))) refl
         where
-          go : (b : Bool) → leb least (firms (r .number .0) (s .answers)) ≡ b → Fair d on GoodHere (fills (ranked-for s r d) (units-of (cond b (decision-at s r d limit (r .left .0)) None)))
-          go true e = fair-decided d on GoodHere (decision-at s r d limit (r .left .0)) apart (λ x h. (let q = h .exact in omega arith))
-              (finds.decides-alike d (request-before d) on _ GoodHere
+          go : (b : Bool) → leb least (firms (r .number .0) (s .answers)) ≡ b → Decides d (request-before d) on GoodHere (cond b (decision-at s r d limit (r .left .0)) None)
+          go true e =
+              finds.decides-alike d (request-before d) on _ GoodHere
               (λ x h. finds.good-automatic d (s .book .lot) limit (r .left .0) least _ on x (leb-true _ _ e) h)
               (λ x h. finds.automatic-good d (s .book .lot) limit (r .left .0) least _ on x h some)
-              (decision-at s r d limit (r .left .0)) (decides w limit (r .left .0)))
-          go false e = subst (Fair d on GoodHere) (sym (fills-none (ranked-for s r d))) (λ x h. (let k = leb-false least _ e in let f = h .enough in omega arith))
+              (decision-at s r d limit (r .left .0)) (decides w limit (r .left .0))
+          go false e = λ x h. (let k = leb-false least _ e in let f = h .enough in omega arith)
+
+      pub fair-in-turn : Fair d on GoodHere (fills (ranked-for s r d) (units-of (decision-in-turn s r d limit least)))
+      fair-in-turn = fair-decided d on GoodHere (decision-in-turn s r d limit least) apart (λ x h. (let q = h .exact in omega arith)) decides-in-turn
 
     -- what fits: at a confirmation and in a turn
     pub fits-at : r .left .0 % s .book .lot ≡ 0 → (price least : ℕ) → (units-of (decision-at s r d price least) ≤ r .left .0) × (units-of (decision-at s r d price least) % s .book .lot ≡ 0)

@@ -1,6 +1,6 @@
 -- The law of runs, about the step.
 use mathlib.Core.Path.{_≡_, refl, sym, ap, ap₂, subst, _∙_}
-use mathlib.Core.List.{List, [], _∷_, _++_, append-nil, map}
+use mathlib.Core.List.{List, [], _∷_, _++_, append-nil, append-assoc, map}
 use mathlib.Core.Bool.{Bool, true, false, cond, _||_, _&&_, not}
 use Prim.Native.Nat.{ℕ, _+_, _%_, _≤_, _<_, max, min}
 use native.Mathlib.Omega.{arith}
@@ -40,9 +40,9 @@ use Rattle.rules.specs.Calls.{Call, Sent, Reply, News, brings, given, next-of,
 use Rattle.rules.specs.Calls.Call.{order, withdrawal, manual, automatic, answer, confirmation, clock}
 use Rattle.rules.specs.Checks.{refusal, is-none}
 use Rattle.rules.specs.Step.{Out, step, answered, acceptance, reported, received, less, matched, turn, turn-of, confirmed, confirmed-by, one-by-one, expiries, turns-after}
-use Rattle.rules.specs.History.{Event, History, Ledger, newly, after, ledger, time, with-call, with-reports, open-requests, living, standing, next-number, came-as, quantity, stands, standing-market}
+use Rattle.rules.specs.History.{Event, History, Ledger, newly, after, messages, ledger, time, with-call, with-reports, open-requests, living, standing, next-number, came-as, quantity, stands, standing-market}
 use Rattle.rules.specs.Law.{Each, Replies, Accepting, Accepts, Ordered, PriceTime, Answered, Confirmed, ConfirmedBy, expired, expired-at, Account, Lawful}
-use Rattle.rules.specs.Run.{Opens, Leads, Reached, GoesOn, StepIsLawful, OpeningIsLawful}
+use Rattle.rules.specs.Run.{Opens, Leads, Reached, GoesOn, StepIsLawful, run, event-of, recorded, Recorded, RunsAreLawful}
 use Rattle.rules.specs.Run.Leads.{opens, goes}
 use Rattle.rules.proofs.Left.{touched, touched-append, filled-append, killed-append, count, count-append, came-none, came-append, remain-append, remain-same, KeptLaws}
 use Rattle.rules.proofs.Pours.{own-fills, fills-prices, fills-units}
@@ -428,5 +428,25 @@ step-is-lawful s m h r =
 pub goes-on : (s : State) (m : Sent) (a : Reply) (rs : List Report) (t : State) → step s m ≡ record { reply = a; reports = rs; state = t } → GoesOn s m a rs t
 goes-on s m a rs t e = subst (λ (z : Out). GoesOn s m (z .reply) (z .reports) (z .state)) e (step-is-lawful s m)
 
-pub opening-is-lawful : OpeningIsLawful
-opening-is-lawful o e = let r : Reached (newly o) (opened o) = opens e refl in (r, lawful (newly o) (opened o) r)
+-- ── whole runs ──
+
+recorded-reached : (ms : List Sent) (h : History) (s : State) → Reached h s → Reached (recorded h s ms) (run s ms)
+unfolding recorded run
+recorded-reached [] h s r = r
+recorded-reached (m ∷ ms) h s r = recorded-reached ms (after h (event-of s m)) (step s m .state) (goes r refl)
+
+recorded-opening : (ms : List Sent) (h : History) (s : State) → recorded h s ms .opening ≡ h .opening
+unfolding recorded
+recorded-opening [] h s = refl
+recorded-opening (m ∷ ms) h s = recorded-opening ms (after h (event-of s m)) (step s m .state)
+
+recorded-messages : (ms : List Sent) (h : History) (s : State) → messages (recorded h s ms .events) ≡ messages (h .events) ++ ms
+unfolding recorded messages
+recorded-messages [] h s = sym (append-nil (messages (h .events)))
+recorded-messages (m ∷ ms) h s = recorded-messages ms (after h (event-of s m)) (step s m .state) ∙ append-assoc (messages (h .events)) (m ∷ []) ms
+
+pub runs-are-lawful : RunsAreLawful
+unfolding messages
+runs-are-lawful o e ms =
+    let r : Reached (recorded (newly o) (opened o) ms) (run (opened o) ms) = recorded-reached ms (newly o) (opened o) (opens e refl) in
+    record { opening = recorded-opening ms (newly o) (opened o); messages = recorded-messages ms (newly o) (opened o); reached = r; lawful = lawful _ _ r }

@@ -1,4 +1,3 @@
-pub mod Marks
 pub mod Left
 pub mod Pours
 pub mod Fine
@@ -7,6 +6,7 @@ pub mod Turns
 pub mod Keeps
 pub mod Arrivals
 pub mod Lawful
+pub mod Marks
 pub mod Only
 pub mod Bad
 pub mod Books

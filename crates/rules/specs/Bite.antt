@@ -8,13 +8,13 @@ use Rattle.units.specs.declared.side.Side.the-variants.{Buy, Sell}
 use Rattle.units.specs.declared.refusal.Refusal.the-variants as refusals
 use Rattle.rules.specs.declared.reports.KillReason.the-variants.{RequestDone, AnswerDone, RequestWithdrawn, AnswerDropped, RequestExpired, Withdrawn}
 use Rattle.rules.specs.declared.reports.Report.{Report}
-use Rattle.rules.specs.State.{State, Opening, opened}
+use Rattle.rules.specs.State.{State, Opening}
 use Rattle.rules.specs.Reports.{filled-by, kill}
 use Rattle.rules.specs.Calls.{Call, Sent, Reply}
 use Rattle.rules.specs.Step.{acceptance, received}
 use Rattle.rules.specs.History.{History, Event, after}
 use Rattle.rules.specs.Law.{Replies, Lawful}
-use Rattle.rules.specs.Examples.{seat, sent, play, history, orders, requests, buys-by-itself, answers, confirms, withdraws, clock-to, three, by-itself, timed, rounded}
+use Rattle.rules.specs.Examples.{sent, played, history, orders, requests, buys-by-itself, answers, confirms, withdraws, clock-to, three, by-itself, timed, rounded}
 
 -- ── no choice ──
 
@@ -181,8 +181,8 @@ BadBreaks = All (λ (b : Bad). (s : State) → Lawful (ends-badly b) s → ⊥) 
 
 -- a book that was not taken from
 abbrev pub KeptBookBreaks : Type 0
-KeptBookBreaks = Lawful (history (three 0 ++ confirms Buy 992 ∷ [])) (play (opened seat) (three 0)) → ⊥
+KeptBookBreaks = Lawful (history (three 0 ++ confirms Buy 992 ∷ [])) (played (three 0)) → ⊥
 
 -- an order that was refused, for its price is 0, and stands in the book nevertheless
 abbrev pub TraceBreaks : Type 0
-TraceBreaks = Lawful (history (three 0 ++ orders 4 Sell 0 100 ∷ [])) (received (play (opened seat) (three 0)) (orders 4 Sell 0 100)) → ⊥
+TraceBreaks = Lawful (history (three 0 ++ orders 4 Sell 0 100 ∷ [])) (received (played (three 0)) (orders 4 Sell 0 100)) → ⊥

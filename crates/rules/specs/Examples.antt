@@ -1,4 +1,4 @@
--- The worked examples, as one statement over their table; that any calls have a history; and that checks run in the order of their numbers.
+-- The worked examples, as one statement over their table: of good draws and the one that trades, of statuses, and of what calls do; and that checks run in the order of their numbers.
 use mathlib.Core.Path.{_≡_}
 use mathlib.Core.List.{List, [], _∷_, _++_, map}
 use mathlib.Core.Bool.{true}
@@ -12,24 +12,29 @@ use Rattle.std.specs.declared.result.Result.the-variants.{Ok, Err}
 use Rattle.units.specs.declared.Price.{Price}
 use Rattle.units.specs.declared.Firm.{Firm}
 use Rattle.units.specs.declared.Quantity.{Quantity}
+use Rattle.units.specs.declared.Money.{Money}
 use Rattle.units.specs.declared.side.Side.{Side}
 use Rattle.units.specs.declared.side.Side.the-variants.{Buy, Sell}
 use Rattle.units.specs.declared.refusal.Refusal.{Refusal}
 use Rattle.units.specs.Refusals.{number-of}
 use Rattle.draw.specs.declared.offers.Eligible.{Eligible}
+use Rattle.draw.specs.Rankings.{request-before}
+use Rattle.draw.specs.Draws.{Good, GoodAutomatic, Decides}
 use Rattle.rules.specs.declared.records.Request.{Request}
+use Rattle.rules.specs.declared.records.Terms.{Terms}
+use Rattle.rules.specs.declared.records.Terms.the-variants.{Manual, Automatic}
 use Rattle.rules.specs.declared.reports.Report.{Report}
 use Rattle.rules.specs.declared.reports.Status.{Status}
 use Rattle.rules.specs.State.{State, Opening, opened, a-request}
 use Rattle.rules.specs.Reports.{killed}
-use Rattle.rules.specs.Offers.{under, first}
+use Rattle.rules.specs.Offers.{under, first, firms}
 use Rattle.rules.specs.Calls.{Call, Sent, Reply}
 use Rattle.rules.specs.Calls.Call.{order, withdrawal, manual, automatic, answer, confirmation, clock}
 use Rattle.rules.specs.Checks.{Check, all-checks}
-use Rattle.rules.specs.Step.{step, ranked-for}
+use Rattle.rules.specs.Step.{step, on-offer, ranked-for}
 use Rattle.rules.specs.Status.{status, provider-status}
-use Rattle.rules.specs.History.{History, Event, newly, after}
-use Rattle.rules.specs.Run.{Reached}
+use Rattle.rules.specs.History.{History, newly}
+use Rattle.rules.specs.Run.{Opens, run, recorded}
 
 -- ── a seat, and calls on it ──
 
@@ -43,9 +48,12 @@ seat = record { book = record { buys = []; sells = []; lot = 10 }; most = 128; i
 abbrev pub sent : Call → Sent
 sent c = record { call = c; places = 2048; working = 192 }
 
-unfoldable pub play : State → List Call → State
-play s [] = s
-play s (c ∷ cs) = play (step s (sent c) .state) cs
+-- the seat after calls, and their history
+abbrev pub played : List Call → State
+played cs = run (opened seat) (map sent cs)
+
+abbrev pub history : List Call → History
+history cs = recorded (newly seat) (opened seat) (map sent cs)
 
 -- firm, side, price, quantity
 abbrev pub orders : ℕ → Side → ℕ → ℕ → Call
@@ -115,13 +123,30 @@ told s (going c n) = reply-told (step s (sent c) .reply) (step s (sent c) .repor
 told s (ranks n d) = ranks-told s d (first (under a-request n (s .requests)))
 told s (still-open n) = length (under a-request n (s .requests)) ∷ []
 
-pub record Example : Type 0 where
-  pub calls : List Call
-  pub ask : Ask
-  pub tells : List ℕ
+-- of all good draws at a confirmation on that side at that price, or in a turn: the one that trades, by size and money, or none is good
+abbrev pub DecidedBy : State → Side → ℕ → Option (Quantity × Money) → Request → Terms → Type 0
+DecidedBy s d p outcome r (Manual e m) =
+    Decides d (request-before d) (on-offer s r d) (Good d (s .book .lot) p (m .0) (r .left .0) (on-offer s r d)) outcome
+DecidedBy s d p outcome r (Automatic e limit m) =
+    Decides e (request-before e) (on-offer s r e)
+    (GoodAutomatic e (s .book .lot) (limit .0) (r .left .0) (m .0) (firms (r .number .0) (s .answers)) (on-offer s r e)) outcome
 
-abbrev row : List Call → Ask → List ℕ → Example
-row cs a ns = record { calls = cs; ask = a; tells = ns }
+abbrev pub Decided : State → Side → ℕ → Option (Quantity × Money) → Option Request → Type 0
+Decided s d p outcome None = ⊥
+Decided s d p outcome (Some r) = DecidedBy s d p outcome r (r .terms)
+
+pub data Row : Type 0 where
+  -- after the calls this is told
+  tells : List Call → Ask → List ℕ → Row
+  -- after the calls the request 2 is decided so
+  decides : List Call → Side → ℕ → Option (Quantity × Money) → Row
+
+abbrev pub Holds : Row → Type 0
+Holds (Row.tells cs a ns) = told (played cs) a ≡ ns
+Holds (Row.decides cs d p outcome) = Decided (played cs) d p outcome (first (under a-request 2 (played cs .requests)))
+
+abbrev pub trades : ℕ → ℕ → Option (Quantity × Money)
+trades size money = Some (record { 0 = size }, record { 0 = money })
 
 -- ── the table ──
 
@@ -136,10 +161,10 @@ three minimum = orders 4 Sell 980 1000 ∷ requests Buy 5000 minimum ∷ answers
 abbrev pub by-itself : ℕ → ℕ → List Call
 by-itself limit least = orders 4 Sell 980 1000 ∷ buys-by-itself limit 5000 least ∷ answers 2 Sell 2 990 2000 ∷ []
 
-abbrev one-price : List Call
+abbrev pub one-price : List Call
 one-price = orders 4 Sell 1000 1000 ∷ requests Buy 5000 0 ∷ answers 2 Sell 2 1000 500 ∷ answers 3 Sell 2 1000 700 ∷ []
 
-abbrev selling : List Call
+abbrev pub selling : List Call
 selling = orders 4 Buy 1000 1000 ∷ requests Sell 3000 0 ∷ answers 2 Buy 2 990 2000 ∷ []
 
 abbrev pub timed : List Call
@@ -149,60 +174,56 @@ timed = orders 4 Sell 980 1000 ∷ clock-to 5000 ∷ requests Buy 5000 0 ∷ []
 abbrev pub rounded : List Call
 rounded = orders 4 Sell 1 20 ∷ requests Buy 30 0 ∷ answers 2 Sell 2 2 10 ∷ []
 
-abbrev pub table : List Example
+abbrev pub table : List Row
 table =
-    row (three 0) (status-of 2 Buy) (5000 ∷ 4960000 ∷ 2 ∷ 992 ∷ [])
-    ∷ row two (status-of 2 Buy) (3000 ∷ 2960000 ∷ 1 ∷ 987 ∷ [])
-    ∷ row (three 0) (going (confirms Buy 992) 2) (5000 ∷ 4960000 ∷ 0 ∷ [])
-    ∷ row (three 0) (going (confirms Buy 991) 2) (4440 ∷ 4400000 ∷ 560 ∷ [])
-    ∷ row (three 0) (going (confirms Buy 980) 2) (1000 ∷ 980000 ∷ 4000 ∷ [])
-    ∷ row (three 0) (going (confirms Buy 979) 2) (0 ∷ 0 ∷ 5000 ∷ [])
-    ∷ row (three 4440) (going (confirms Buy 991) 2) (4440 ∷ 4400000 ∷ 560 ∷ [])
-    ∷ row (three 4450) (going (confirms Buy 991) 2) (0 ∷ 0 ∷ 5000 ∷ [])
-    ∷ row selling (going (confirms Sell 995) 2) (2000 ∷ 1990000 ∷ 1000 ∷ [])
-    ∷ row (by-itself 992 2) (going (answers 3 Sell 2 1000 5000) 4) (5000 ∷ 4960000 ∷ 3000 ∷ [])
-    ∷ row (by-itself 991 2) (going (answers 3 Sell 2 1000 5000) 4) (0 ∷ 0 ∷ 0 ∷ [])
-    ∷ row (by-itself 992 3) (going (answers 3 Sell 2 1000 5000) 4) (0 ∷ 0 ∷ 0 ∷ [])
-    ∷ row one-price (ranks 2 Buy) (700 ∷ 500 ∷ 1000 ∷ [])
-    ∷ row (timed ++ clock-to 184999 ∷ []) (still-open 2) (1 ∷ [])
-    ∷ row (timed ++ clock-to 184999 ∷ []) (going (clock-to 185000) 2) (0 ∷ 0 ∷ 5000 ∷ [])
-    ∷ row (timed ++ clock-to 185000 ∷ []) (still-open 2) (0 ∷ [])
+    Row.tells (three 0) (status-of 2 Buy) (5000 ∷ 4960000 ∷ 2 ∷ 992 ∷ [])
+    ∷ Row.tells two (status-of 2 Buy) (3000 ∷ 2960000 ∷ 1 ∷ 987 ∷ [])
+    ∷ Row.decides (three 0) Buy 992 (trades 5000 4960000)
+    ∷ Row.tells (three 0) (going (confirms Buy 992) 2) (5000 ∷ 4960000 ∷ 0 ∷ [])
+    ∷ Row.decides (three 0) Buy 991 (trades 4440 4400000)
+    ∷ Row.tells (three 0) (going (confirms Buy 991) 2) (4440 ∷ 4400000 ∷ 560 ∷ [])
+    ∷ Row.decides (three 0) Buy 980 (trades 1000 980000)
+    ∷ Row.tells (three 0) (going (confirms Buy 980) 2) (1000 ∷ 980000 ∷ 4000 ∷ [])
+    ∷ Row.decides (three 0) Buy 979 None
+    ∷ Row.tells (three 0) (going (confirms Buy 979) 2) (0 ∷ 0 ∷ 5000 ∷ [])
+    ∷ Row.decides (three 4440) Buy 991 (trades 4440 4400000)
+    ∷ Row.tells (three 4440) (going (confirms Buy 991) 2) (4440 ∷ 4400000 ∷ 560 ∷ [])
+    ∷ Row.decides (three 4450) Buy 991 None
+    ∷ Row.tells (three 4450) (going (confirms Buy 991) 2) (0 ∷ 0 ∷ 5000 ∷ [])
+    ∷ Row.decides selling Sell 995 (trades 2000 1990000)
+    ∷ Row.tells selling (going (confirms Sell 995) 2) (2000 ∷ 1990000 ∷ 1000 ∷ [])
+    ∷ Row.tells (by-itself 992 2) (going (answers 3 Sell 2 1000 5000) 4) (5000 ∷ 4960000 ∷ 3000 ∷ [])
+    ∷ Row.tells (by-itself 991 2) (going (answers 3 Sell 2 1000 5000) 4) (0 ∷ 0 ∷ 0 ∷ [])
+    ∷ Row.decides (by-itself 991 2 ++ answers 3 Sell 2 1000 5000 ∷ []) Buy 0 None
+    ∷ Row.tells (by-itself 992 3) (going (answers 3 Sell 2 1000 5000) 4) (0 ∷ 0 ∷ 0 ∷ [])
+    ∷ Row.decides (by-itself 992 3 ++ answers 3 Sell 2 1000 5000 ∷ []) Buy 0 None
+    ∷ Row.tells one-price (ranks 2 Buy) (700 ∷ 500 ∷ 1000 ∷ [])
+    ∷ Row.tells (timed ++ clock-to 184999 ∷ []) (still-open 2) (1 ∷ [])
+    ∷ Row.tells (timed ++ clock-to 184999 ∷ []) (going (clock-to 185000) 2) (0 ∷ 0 ∷ 5000 ∷ [])
+    ∷ Row.tells (timed ++ clock-to 185000 ∷ []) (still-open 2) (0 ∷ [])
     -- the rounded price decides nothing
-    ∷ row rounded (status-of 2 Buy) (30 ∷ 40 ∷ 1 ∷ 1 ∷ [])
-    ∷ row rounded (going (confirms Buy 1) 2) (20 ∷ 20 ∷ 10 ∷ [])
+    ∷ Row.tells rounded (status-of 2 Buy) (30 ∷ 40 ∷ 1 ∷ 1 ∷ [])
+    ∷ Row.decides rounded Buy 1 (trades 20 20)
     -- two answers of one firm are one firm
-    ∷ row (by-itself 1000 2) (going (answers 2 Sell 2 1000 5000) 4) (0 ∷ 0 ∷ 0 ∷ [])
+    ∷ Row.tells (by-itself 1000 2) (going (answers 2 Sell 2 1000 5000) 4) (0 ∷ 0 ∷ 0 ∷ [])
     -- what the status takes from firm 3's answer
-    ∷ row (three 0) (share-of 4) (2000 ∷ [])
-    -- refusals
-    ∷ row (three 0) (going (confirms Sell 992) 2) (14 ∷ [])
-    ∷ row (three 0) (going (answers 5 Buy 2 990 10) 2) (14 ∷ [])
-    ∷ row (three 0) (going (answers 1 Sell 2 990 10) 2) (15 ∷ [])
-    ∷ row (three 0) (going (answers 5 Sell 2 990 15) 2) (11 ∷ [])
-    ∷ row (three 0) (going (withdraws 2 4) 2) (9 ∷ [])
-    ∷ row timed (going (clock-to 4999) 2) (8 ∷ [])
-    ∷ row (by-itself 992 3) (going (confirms Buy 992) 2) (16 ∷ [])
+    ∷ Row.tells (three 0) (share-of 4) (2000 ∷ [])
+    -- refusals: the wrong side, the issuer as provider, no quantity, another firm's answer, a time that is past, an automatic request confirmed
+    ∷ Row.tells (three 0) (going (confirms Sell 992) 2) (14 ∷ [])
+    ∷ Row.tells (three 0) (going (answers 5 Buy 2 990 10) 2) (14 ∷ [])
+    ∷ Row.tells (three 0) (going (answers 1 Sell 2 990 10) 2) (15 ∷ [])
+    ∷ Row.tells (three 0) (going (answers 5 Sell 2 990 15) 2) (11 ∷ [])
+    ∷ Row.tells (three 0) (going (withdraws 2 4) 2) (9 ∷ [])
+    ∷ Row.tells timed (going (clock-to 4999) 2) (8 ∷ [])
+    ∷ Row.tells (by-itself 992 3) (going (confirms Buy 992) 2) (16 ∷ [])
     ∷ []
 
 abbrev pub Marked : Type 0
-Marked = All (λ (e : Example). told (play (opened seat) (e .calls)) (e .ask) ≡ e .tells) table
+Marked = All Holds table
 
--- ── histories of calls ──
-
-abbrev pub event-of : State → Call → Event
-event-of s c = record { sent = sent c; reply = step s (sent c) .reply; reports = step s (sent c) .reports }
-
-unfoldable pub told-by : History → State → List Call → History
-told-by h s [] = h
-told-by h s (c ∷ cs) = told-by (after h (event-of s c)) (step s (sent c) .state) cs
-
--- the history of calls on a seat newly opened
-abbrev pub history : List Call → History
-history cs = told-by (newly seat) (opened seat) cs
-
--- any calls have a history, so that the law of runs is of something
-abbrev pub CanBeReached : Type 0
-CanBeReached = (cs : List Call) → Reached (history cs) (play (opened seat) cs)
+-- the seat can be opened, so that the law of runs is of something
+abbrev pub SeatOpens : Type 0
+SeatOpens = Opens seat
 
 -- ── the order of the checks ──
 

@@ -34,6 +34,11 @@ newly o = record { opening = o; events = [] }
 abbrev pub after : History → Event → History
 after h e = record { opening = h .opening; events = e ∷ h .events }
 
+-- the messages of the events, from the first to the last
+unfoldable pub messages : List Event → List Sent
+messages [] = []
+messages (e ∷ es) = messages es ++ e .sent ∷ []
+
 -- ── what came ──
 
 -- all that came, in order of arrival and as it came: offers at opening and orders, answers, requests; and all that was reported

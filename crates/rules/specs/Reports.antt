@@ -7,9 +7,29 @@ use Rattle.draw.specs.declared.fills.Fill.{Fill}
 use Rattle.draw.specs.declared.offers.Eligible.{Eligible}
 use Rattle.draw.specs.Fills.{fills}
 use Rattle.rules.specs.declared.reports.KillReason.{KillReason}
+use Rattle.rules.specs.declared.reports.KillReason.the-variants as reasons
 use Rattle.rules.specs.declared.reports.Report.{Report}
 use Rattle.rules.specs.declared.reports.Report.the-variants as report
+use Rattle.rules.specs.declared.reports.ReportLine.{ReportLine}
 use Rattle.rules.specs.State.{Kept}
+
+-- ── reports as numbers ──
+
+abbrev pub reason-number : KillReason → ℕ
+reason-number reasons.RequestDone = 21
+reason-number reasons.AnswerDone = 22
+reason-number reasons.RequestWithdrawn = 14
+reason-number reasons.AnswerDropped = 20
+reason-number reasons.RequestExpired = 101
+reason-number reasons.AnswerExpired = 102
+reason-number reasons.Withdrawn = 103
+
+-- kind, reason, taker, maker, quantity and price
+abbrev pub line-of : Report → ReportLine
+line-of (report.Fill t f) = record { kind = 1; reason = 0; taker = t; maker = f .maker; quantity = f .quantity; price = f .price }
+line-of (report.Kill reason n q) = record { kind = 2; reason = reason-number reason; taker = n; maker = record { 0 = 0 }; quantity = q; price = record { 0 = 0 } }
+
+-- ── what reports fill and kill ──
 
 -- the fill of a taker, and the kill of what is left of a number
 abbrev pub filled-by : ℕ → Fill → Report
@@ -62,6 +82,8 @@ with-fill n (report.Kill reason k q) fs = fs
 unfoldable pub fills-by : ℕ → List Report → List Fill
 fills-by n [] = []
 fills-by n (r ∷ rs) = with-fill n r (fills-by n rs)
+
+-- ── what they leave ──
 
 -- what the reports leave of one record
 abbrev pub rest : {X : Type 0} → Kept X → List Report → X → ℕ

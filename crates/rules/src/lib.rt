@@ -4,11 +4,17 @@ mod reports;
 mod theorems;
 
 pub use records::Answer;
+pub use records::AnswerAnswering;
+pub use records::AnswerNamed;
 pub use records::Request;
+pub use records::RequestDated;
+pub use records::RequestNamed;
 pub use records::Terms;
 pub use reports::Accepted;
 pub use reports::KillReason;
 pub use reports::Report;
+pub use reports::ReportLine;
+pub use reports::ReportTellsFill;
 pub use reports::Status;
 pub use theorems::engines_can_follow;
 pub use theorems::examples_come_out;

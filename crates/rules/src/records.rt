@@ -1,4 +1,8 @@
 // What a market holds beside its book: the open requests, and the living answers to them.
+ghost use Prim.Native.Nat.{ℕ};
+use draw::Answering;
+use ranked::Dated;
+use ranked::Named;
 use units::Firm;
 use units::FirmCount;
 use units::Number;
@@ -35,4 +39,38 @@ pub struct Request {
     pub left: Quantity,
     pub deadline: Time,
     pub terms: Terms,
+}
+
+pub impl Named for Request as RequestNamed {
+    ghost number = { λ r. r .number .0 };
+}
+
+pub impl Dated for Request as RequestDated {
+    ghost due = { λ r. r .deadline .0 };
+
+    fn deadline(&self) -> Time {
+        self.deadline
+    }
+
+    fn name(&self) -> Number {
+        self.number
+    }
+}
+
+pub impl Named for Answer as AnswerNamed {
+    ghost number = { λ a. a .number .0 };
+}
+
+pub impl Answering for Answer as AnswerAnswering {
+    ghost of_firm = { λ a. a .firm .0 };
+
+    ghost to_request = { λ a. a .request .0 };
+
+    fn firm(&self) -> Firm {
+        self.firm
+    }
+
+    fn request(&self) -> Number {
+        self.request
+    }
 }

@@ -1,5 +1,8 @@
 // What a market reports and answers.
+ghost use mathlib.Core.Path.{_≡_};
+ghost use Rattle.rules.specs.Reports.{reason-number, line-of, filled-by};
 use draw::Fill;
+use draw::TellsFill;
 use units::FirmCount;
 use units::Money;
 use units::Number;
@@ -32,6 +35,66 @@ pub enum Report {
     Fill(Number, Fill),
     // the killed number, and what was left of it
     Kill(KillReason, Number, Quantity),
+}
+
+// A report as its six numbers: kind 1 is a fill, for no reason; kind 2 is a kill, with neither maker nor price.
+#[derive(Clone, Copy)]
+pub struct ReportLine {
+    pub kind: u8,
+    pub reason: u8,
+    pub taker: Number,
+    pub maker: Number,
+    pub quantity: Quantity,
+    pub price: Price,
+}
+
+impl KillReason {
+    pub fn number(self) -> u8
+        ensures { λ r. ⌜ r ≡ reason-number self ⌝ }
+    {
+        match self {
+            KillReason::RequestDone => 21,
+            KillReason::AnswerDone => 22,
+            KillReason::RequestWithdrawn => 14,
+            KillReason::AnswerDropped => 20,
+            KillReason::RequestExpired => 101,
+            KillReason::AnswerExpired => 102,
+            KillReason::Withdrawn => 103,
+        }
+    }
+}
+
+impl Report {
+    pub fn line(self) -> ReportLine
+        ensures { λ r. ⌜ r ≡ line-of self ⌝ }
+    {
+        match self {
+            Report::Fill(taker, fill) => ReportLine {
+                kind: 1,
+                reason: 0,
+                taker,
+                maker: fill.maker,
+                quantity: fill.quantity,
+                price: fill.price,
+            },
+            Report::Kill(reason, number, left) => ReportLine {
+                kind: 2,
+                reason: reason.number(),
+                taker: number,
+                maker: Number(0),
+                quantity: left,
+                price: Price(0),
+            },
+        }
+    }
+}
+
+pub impl TellsFill for Report as ReportTellsFill {
+    ghost tells = { filled-by };
+
+    fn of_fill(taker: Number, fill: Fill) -> Report {
+        Report::Fill(taker, fill)
+    }
 }
 
 // What an accepted message is answered: the number given, or 0; the count of its reports; size and money of all that it traded.

@@ -1,5 +1,5 @@
 use Rattle.rules.proofs.theorems.runs_are_lawful.Needs as need
-use Rattle.rules.proofs.Lawful.{opening-is-lawful, step-is-lawful}
+use Rattle.rules.proofs.Lawful.{runs-are-lawful, step-is-lawful}
 
 pub returns : need.returns
-returns c = record { opening = opening-is-lawful; step = step-is-lawful }
+returns c = record { runs = runs-are-lawful; step = step-is-lawful }
