@@ -341,7 +341,7 @@ module _ (o : Opening) (es : List Event) (t : State) (v : Inv o es t) where
 
 -- ── a market newly opened ──
 
-in-range-lots : (lot : ℕ) (xs : List Offer) → all-in-range lot xs ≡ true → Lots an-offer lot xs
+pub in-range-lots : (lot : ℕ) (xs : List Offer) → all-in-range lot xs ≡ true → Lots an-offer lot xs
 in-range-lots lot [] e = tt
 in-range-lots lot (x ∷ xs) e =
     let p = and-parts (in-range lot x) (all-in-range lot xs) e in
@@ -360,7 +360,7 @@ has-none (x ∷ xs) n e =
     let h = has-none xs n (p .1) in
     omega arith
 
-distinct-count : (xs : List Offer) → distinct xs ≡ true → (n : ℕ) → count an-offer xs n ≤ 1
+pub distinct-count : (xs : List Offer) → distinct xs ≡ true → (n : ℕ) → count an-offer xs n ≤ 1
 unfolding count
 distinct-count [] e n = omega arith
 distinct-count (x ∷ xs) e n = go (eqb (x .number .0) n) refl (distinct-count xs (p .1) n)
@@ -381,7 +381,7 @@ above-greatest (x ∷ xs) n h =
     omega arith
 
 module _ (o : Opening) (e : Opens o) where
-  opened-sound : Sound (opened o)
+  pub opened-sound : Sound (opened o)
   unfolding count
   opened-sound = record {
     lot = (let b = lot-bounds (o .book .lot) (e .book .lot) .0 in omega arith);

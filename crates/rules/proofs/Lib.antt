@@ -11,3 +11,4 @@ pub mod Only
 pub mod Bad
 pub mod Books
 pub mod Rooms
+pub mod Sounds

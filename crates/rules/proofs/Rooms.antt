@@ -134,12 +134,12 @@ all-its-remain (r ∷ rs) ks xs = let h = all-its-remain rs ks xs in let i = its
 
 -- ── small tables ──
 
-record Few (s : State) : Type 0 where
-  requests : length (s .requests) ≤ 8
-  answers : length (s .answers) ≤ 64
-  buys : length (s .book .buys) ≤ s .most
-  sells : length (s .book .sells) ≤ s .most
-  most : s .most ≤ 128
+pub record Few (s : State) : Type 0 where
+  pub requests : length (s .requests) ≤ 8
+  pub answers : length (s .answers) ≤ 64
+  pub buys : length (s .book .buys) ≤ s .most
+  pub sells : length (s .book .sells) ≤ s .most
+  pub most : s .most ≤ 128
 
 few-less : (s : State) (rs : List Report) → Few s → Few (less rs s)
 few-less s rs f = record {
@@ -414,25 +414,31 @@ length-reported s n (clock t) f g = length-clock s (t .0) f g
 
 -- ── every run ──
 
+pub few-accepted : (s : State) (m : Sent) → refusal s m ≡ None → Few s → Few (less (reported (received s (m .call)) (s .next) (m .call)) (received s (m .call)))
+few-accepted s m e f = few-less (received s (m .call)) (reported (received s (m .call)) (s .next) (m .call)) (few-received s (m .call) (roomy s m e) f)
+
 few-step : (s : State) (m : Sent) → Few s → Few (step s m .state)
 unfolding step
 few-step s m f = go (refusal s m) refl
   where
     go : (x : Option Refusal) → refusal s m ≡ x → Few (answered s (m .call) x .state)
     go (Some r) e = f
-    go None e = few-less (received s (m .call)) (reported (received s (m .call)) (s .next) (m .call)) (few-received s (m .call) (roomy s m e) f)
+    go None e = few-accepted s m e f
 
-few-opened : (o : Opening) → Opens o → Few (opened o)
+pub few-opened : (o : Opening) → Opens o → Few (opened o)
 few-opened o e = record { requests = omega arith; answers = omega arith; buys = e .book .few Buy; sells = e .book .few Sell; most = e .few }
 
 reached-few : {o : Opening} {es : List Event} {s : State} → Leads o es s → Few s
 reached-few {o} (opens h e) = subst Few (sym e) (few-opened o h)
 reached-few {o} (goes {e} {es} {t} {s} l q) = subst (λ (z : Out). Few (z .state)) q (few-step t (e .sent) (reached-few l))
 
-pub room-for-reports : RoomForReports
+pub length-step : (s : State) (m : Sent) → Sound s → Few s → length (step s m .reports) ≤ 2048
 unfolding step
-room-for-reports h s m r = go (refusal s m) refl
+length-step s m g f = go (refusal s m) refl
   where
     go : (x : Option Refusal) → refusal s m ≡ x → length (answered s (m .call) x .reports) ≤ 2048
-    go (Some f) e = omega arith
-    go None e = length-reported (received s (m .call)) (s .next) (m .call) (few-received s (m .call) (roomy s m e) (reached-few r)) (received-sound s (m .call) (passes s m e) (inv r .sound))
+    go (Some r) e = omega arith
+    go None e = length-reported (received s (m .call)) (s .next) (m .call) (few-received s (m .call) (roomy s m e) f) (received-sound s (m .call) (passes s m e) g)
+
+pub room-for-reports : RoomForReports
+room-for-reports h s m r = length-step s m (inv r .sound) (reached-few r)

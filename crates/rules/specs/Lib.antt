@@ -13,5 +13,6 @@ pub mod Run
 -- What stands under both: worked examples, room for reports, and the way from a book to the step.
 pub mod Examples
 pub mod Bite
+pub mod Sound
 pub mod Room
 pub mod Takes

@@ -69,10 +69,10 @@ impl Report {
         ensures { λ r. ⌜ r ≡ line-of self ⌝ }
     {
         match self {
-            Report::Fill(taker, fill) => ReportLine {
+            Report::Fill(by, fill) => ReportLine {
                 kind: 1,
                 reason: 0,
-                taker,
+                taker: by,
                 maker: fill.maker,
                 quantity: fill.quantity,
                 price: fill.price,
