@@ -139,7 +139,7 @@ module _ (s : State) (r : Request) (d : Side) where
         (all-append _ (map (from-book Sell) (s .book .sells)) _ (all-map _ (from-book Sell) (s .book .sells) (all-weaker _ _ (λ x h. h .1) (s .book .sells) (g .sells)))
         (all-map _ from-answer (s .answers) (all-weaker _ _ (λ x h. h .1) (s .answers) (g .answers))))))
 
-    priced : finds.Priced d (request-before d) on
+    pub priced : finds.Priced d (request-before d) on
     priced = record {
       apart = λ k. (let a = count-sum an-eligible on k in let b = count-on k in let c = g .apart k in omega arith);
       order = request-order d;

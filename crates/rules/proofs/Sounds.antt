@@ -1,16 +1,16 @@
--- Soundness is kept.
+-- Soundness is kept, and suffices.
 use mathlib.Core.Path.{_≡_, refl, sym, ap, ap₂, subst, _∙_}
-use mathlib.Core.List.{List, [], _∷_, _++_}
+use mathlib.Core.List.{List, [], _∷_, _++_, map}
 use mathlib.Core.Bool.{Bool, true, false, cond, _&&_, _||_, not}
 use mathlib.Core.Logic.{_⊎_, inl, inr}
 use Prim.Native.Nat.{ℕ, _+_, _-_, _%_, _≤_, _<_}
 use native.Mathlib.Omega.{arith}
 use lib.Dec.{eqb, leb, ltb}
 use lib.ListN.{length}
-use Rattle.std.specs.shelf.Lists.{All}
+use Rattle.std.specs.shelf.Lists.{All, kept-by}
 use Rattle.std.specs.declared.option.Option.{Option}
 use Rattle.std.specs.declared.option.Option.the-variants.{Some, None}
-use Rattle.std.proofs.shelf.Elements.{all-append}
+use Rattle.std.proofs.shelf.Elements.{all-append, all-map, all-kept-by, all-weaker}
 use Rattle.std.proofs.shelf.Tests.{and-parts, and-from, le-leb, eq-eqb, not-false, not-from-false, or-from, ltb-true, ne-eqb, cond-true, cases-bool}
 use Rattle.units.specs.declared.side.Side.{Side}
 use Rattle.units.specs.declared.side.Side.the-variants.{Buy, Sell}
@@ -19,6 +19,11 @@ use Rattle.units.specs.Ranges.{is-lot, is-number, is-member, is-price, is-quant
 use Rattle.book.specs.declared.Offer.{Offer}
 use Rattle.book.specs.Meaning.{has, in-range, side-of}
 use Rattle.book.specs.Laws as book
+use Rattle.ranked.specs.Lists.{Apart}
+use Rattle.draw.specs.declared.offers.Eligible.{Eligible}
+use Rattle.draw.specs.declared.offers.Offered.{Offered}
+use Rattle.draw.specs.Offers as draws
+use Rattle.draw.specs.Offers.{as-eligible, named}
 use Rattle.draw.proofs.Bounds.{quantity-bounds, lot-bounds}
 use Rattle.draw.proofs.Sides.{whole-sub}
 use Rattle.rules.specs.declared.records.Answer.{Answer}
@@ -29,12 +34,15 @@ use Rattle.rules.specs.Reports.{remain, rest}
 use Rattle.rules.specs.Calls.{Call, Sent, News, nothing, brings}
 use Rattle.rules.specs.Calls.Call.{order, withdrawal, manual, automatic, answer, confirmation, clock}
 use Rattle.rules.specs.Checks.{Check, checks, all-checks, refusal}
-use Rattle.rules.specs.Step.{step, answered, less, received, reported}
+use Rattle.rules.specs.Offers.{under, first, offered, taker-of, from-book, from-answer, met}
+use Rattle.rules.specs.Takes.{Listed}
+use Rattle.rules.specs.Step.{on-offer, step, answered, less, received, reported}
 use Rattle.rules.specs.Run.{Opens}
-use Rattle.rules.specs.Sound.{Sound, SoundIsKept, fits, limit-in-range, answer-in-range, request-in-range, all-times}
+use Rattle.rules.specs.Sound.{Sound, SoundIsKept, SoundSuffices, fits, limit-in-range, answer-in-range, request-in-range, all-times}
 use Rattle.rules.proofs.Left.{touched, count, count-append}
-use Rattle.rules.proofs.Pours.{Whole, touched-whole, count-sum}
+use Rattle.rules.proofs.Pours.{Whole, an-eligible, touched-whole, count-sum, count-map}
 use Rattle.rules.proofs.Fine as fine
+use Rattle.rules.proofs.Fairs.{priced}
 use Rattle.rules.proofs.Keeps.{reported-fine}
 use Rattle.rules.proofs.Arrivals.{passed, passes, asks, received-sound}
 use Rattle.rules.proofs.Lawful.{opened-sound, in-range-lots}
@@ -250,4 +258,87 @@ step-keeps-sound s m fit g = go (refusal s m) refl
         (ranged-less s⁺ rs (w .whole) (ranged-received s c fit (passed (all-checks s m) e .1 .1 .1) (p .2)))
 
 pub sound-is-kept : SoundIsKept
-sound-is-kept = record { at-opening = opened-is-sound; by-messages = step-keeps-sound; room = λ s m g. (let p = in-parts s g in length-step s m (p .0) (p .1)) }
+sound-is-kept = record { at-opening = opened-is-sound; by-messages = step-keeps-sound }
+
+-- ── it suffices ──
+
+-- a record that is found is one of the list
+found : {X : Type 0} (P : X → Type 0) (k : Kept X) (n : ℕ) (xs : List X) (x : X) → All P xs → first (under k n xs) ≡ Some x → P x
+found P k n [] x a e = let z : _≡_ {A = ℕ} 0 1 = cc in absurd (omega arith)
+found P k n (y ∷ xs) x a e = go (eqb (k .number y) n) e (found P k n xs x (a .1))
+  where
+    go : (b : Bool) → first (cond b (y ∷ under k n xs) (under k n xs)) ≡ Some x → (first (under k n xs) ≡ Some x → P x) → P x
+    go true e h = let q : y ≡ x = cc in subst P q (a .0)
+    go false e h = h e
+
+-- what is offered of sound records is sound
+abbrev Offers : ℕ → Offered → Type 0
+Offers lot o = draws.Sound lot (as-eligible o)
+
+offer-offers : (lot : ℕ) (d : Side) (o : Offer) → in-range lot o ≡ true → Offers lot (from-book d o)
+offer-offers lot d o e =
+    let x = and-parts (is-number (o .number .0)) _ e .1 in
+    let y = and-parts (leb (o .firm .0) 255) _ x .1 in
+    let z = and-parts (is-price (o .price .0)) _ y in
+    record { price = z .0; left = z .1 }
+
+answer-offers : (lot : ℕ) (a : Answer) → answer-in-range lot a ≡ true → Offers lot (from-answer a)
+answer-offers lot a e =
+    let x = and-parts (is-number (a .number .0)) _ e .1 in
+    let y = and-parts (is-member (a .firm .0)) _ x .1 in
+    let z = and-parts (is-price (a .price .0)) _ y in
+    record { price = z .0; left = z .1 }
+
+ready : (s : State) → Sound s → (n : ℕ) (r : Request) (d : Side) → first (under a-request n (s .requests)) ≡ Some r → draws.Ready (s .book .lot) (r .left .0) (on-offer s r d)
+ready s g n r d e =
+    let lot = s .book .lot in
+    let p = in-parts s g in
+    record {
+      lot-fits = g .book .lot;
+      fits = found (λ (x : Request). is-quantity lot (x .left .0) ≡ true) a-request n (s .requests) r
+          (all-weaker _ _ (λ (x : Request) h. quantity-part (is-number (x .number .0)) (is-member (x .firm .0)) (limit-in-range (x .terms)) lot (x .left .0) h) (s .requests) (g .requests)) e;
+      sound = all-map _ as-eligible (kept-by (draws.is-eligible (taker-of r d)) (offered (s .book .buys) (s .book .sells) (s .answers))) (all-kept-by _ _ _
+          (all-append _ (map (from-book Buy) (s .book .buys)) _ (all-map _ (from-book Buy) (s .book .buys) (all-weaker _ _ (offer-offers lot Buy) (s .book .buys) (p .2 .buys)))
+          (all-append _ (map (from-book Sell) (s .book .sells)) _ (all-map _ (from-book Sell) (s .book .sells) (all-weaker _ _ (offer-offers lot Sell) (s .book .sells) (p .2 .sells)))
+          (all-map _ from-answer (s .answers) (all-weaker _ _ (answer-offers lot) (s .answers) (g .answers))))));
+      apart = priced s r d (p .0) .apart;
+    }
+
+-- the offers of a side
+side-parts : (s : State) → Sound s → (d : Side) → ((n : ℕ) → count an-offer (side-of (s .book) d) n ≤ 1) × fine.Lots an-offer (s .book .lot) (side-of (s .book) d)
+side-parts s g Buy = let p = in-parts s g .0 in ((λ n. (let a = p .apart n in omega arith)), p .buys)
+side-parts s g Sell = let p = in-parts s g .0 in ((λ n. (let a = p .apart n in omega arith)), p .sells)
+
+met-ready : (s : State) → Sound s → (d : Side) → Apart named (met d (side-of (s .book) d)) × All (λ (o : Eligible). 0 < o .left .0) (met d (side-of (s .book) d))
+met-ready s g d =
+    let os = side-of (s .book) d in
+    let p = side-parts s g d in (
+      (λ n. (
+          let a = count-sum an-eligible (met d os) n in
+          let b = count-map an-offer an-eligible (λ o. as-eligible (from-book d o)) (λ x. refl) (λ x. refl) os n in
+          let c = p .0 n in
+          omega arith)),
+      all-map _ (λ o. as-eligible (from-book d o)) os (all-weaker _ _ (λ x h. h .0) os (p .1)),
+    )
+
+none-counted : (n : ℕ) (os : List Offer) → count an-offer os n ≡ 0 → All (λ (x : Offer). x .number .0 ≡ n → ⊥) os
+unfolding count
+none-counted n [] e = tt
+none-counted n (o ∷ os) e = ((λ h. (let z = cond-true {A = ℕ} (eqb (o .number .0) n) 1 0 (eq-eqb _ n h) in omega arith)), none-counted n os (omega arith))
+
+listed : (lot : ℕ) (os : List Offer) → ((n : ℕ) → count an-offer os n ≤ 1) → fine.Lots an-offer lot os → Listed os
+unfolding count
+listed lot [] c a = tt
+listed lot (o ∷ os) c a = (
+  none-counted (o .number .0) os (let h = c (o .number .0) in let z = cond-true {A = ℕ} (eqb (o .number .0) (o .number .0)) 1 0 (eq-eqb (o .number .0) (o .number .0) refl) in omega arith),
+  a .0 .0,
+  listed lot os (λ n. (let h = c n in omega arith)) (a .1),
+)
+
+pub sound-suffices : SoundSuffices
+sound-suffices = record {
+  draws = ready;
+  orders = met-ready;
+  takes = λ s g d. (let p = side-parts s g d in listed (s .book .lot) (side-of (s .book) d) (p .0) (p .1));
+  room = λ s m g. (let p = in-parts s g in length-step s m (p .0) (p .1));
+}

@@ -6,13 +6,14 @@ pub mod Calls
 pub mod Checks
 pub mod Step
 pub mod Status
--- The law: what a history tells, and what every history of a market keeps.
+-- The law: what a history tells, and what every run keeps.
 pub mod History
 pub mod Law
 pub mod Run
--- What stands under both: worked examples, room for reports, and the way from a book to the step.
+-- What speaks for both: the worked examples, and that the law bites.
 pub mod Examples
 pub mod Bite
-pub mod Sound
-pub mod Room
+-- What an engine over a book relies on.
 pub mod Takes
+pub mod Room
+pub mod Sound

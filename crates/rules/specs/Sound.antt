@@ -2,13 +2,18 @@
 use mathlib.Core.Path.{_≡_}
 use mathlib.Core.List.{List}
 use mathlib.Core.Bool.{Bool, true, _&&_}
-use Prim.Native.Nat.{ℕ, _+_, _≤_}
+use Prim.Native.Nat.{ℕ, _+_, _≤_, _<_}
 use lib.Dec.{eqb, leb}
 use lib.ListN.{length}
 use Rattle.std.specs.shelf.Lists.{All, countBy}
-use Rattle.units.specs.declared.Firm.{Firm}
+use Rattle.std.specs.declared.option.Option.the-variants.{Some}
+use Rattle.units.specs.declared.side.Side.{Side}
 use Rattle.units.specs.Ranges.{is-number, is-member, is-price, is-quantity}
+use Rattle.ranked.specs.Lists.{Apart}
+use Rattle.book.specs.Meaning.{side-of}
 use Rattle.book.specs.Laws as book
+use Rattle.draw.specs.declared.offers.Eligible.{Eligible}
+use Rattle.draw.specs.Offers.{Ready, named}
 use Rattle.rules.specs.declared.records.Answer.{Answer}
 use Rattle.rules.specs.declared.records.Request.{Request}
 use Rattle.rules.specs.declared.records.Terms.{Terms}
@@ -16,7 +21,9 @@ use Rattle.rules.specs.declared.records.Terms.the-variants.{Manual, Automatic}
 use Rattle.rules.specs.State.{Kept, State, Opening, opened, an-offer, an-answer, a-request}
 use Rattle.rules.specs.Calls.{Call, Sent}
 use Rattle.rules.specs.Calls.Call.{order, withdrawal, manual, automatic, answer, confirmation, clock}
-use Rattle.rules.specs.Step.{step}
+use Rattle.rules.specs.Offers.{under, first, met}
+use Rattle.rules.specs.Step.{step, on-offer}
+use Rattle.rules.specs.Takes.{Listed}
 use Rattle.rules.specs.Run.{Opens}
 
 -- ── ranges of what the market holds beside its book ──
@@ -56,7 +63,7 @@ pub record Sound (s : State) : Type 0 where
 
 -- ── it is kept ──
 
--- the firm that sends it fits its field
+-- the firm of an order fits its field, as the laws of a book want
 abbrev pub fits : Call → Bool
 fits (order f d p q) = leb (f .0) 255
 fits (withdrawal f n) = true
@@ -69,5 +76,12 @@ fits (clock t) = true
 pub record SoundIsKept : Type 0 where
   pub at-opening : (o : Opening) → Opens o → Sound (opened o)
   pub by-messages : (s : State) (m : Sent) → fits (m .call) ≡ true → Sound s → Sound (step s m .state)
-  -- and suffices for room
+
+-- ── it suffices ──
+
+-- for what draws ask of the offers of a request, what an order's fills ask of the side that it meets, what takes ask of a side of the book, and room for reports
+pub record SoundSuffices : Type 0 where
+  pub draws : (s : State) → Sound s → (n : ℕ) (r : Request) (d : Side) → first (under a-request n (s .requests)) ≡ Some r → Ready (s .book .lot) (r .left .0) (on-offer s r d)
+  pub orders : (s : State) → Sound s → (d : Side) → Apart named (met d (side-of (s .book) d)) × All (λ (o : Eligible). 0 < o .left .0) (met d (side-of (s .book) d))
+  pub takes : (s : State) → Sound s → (d : Side) → Listed (side-of (s .book) d)
   pub room : (s : State) (m : Sent) → Sound s → length (step s m .reports) ≤ 2048

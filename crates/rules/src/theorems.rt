@@ -3,7 +3,7 @@ ghost use Rattle.rules.specs.Bite.{NoChoice, OneHistory, BadBreaks, KeptBookBr
 ghost use Rattle.rules.specs.Examples.{Marked, SeatOpens, InTableOrder};
 ghost use Rattle.rules.specs.Room.{RoomForReports};
 ghost use Rattle.rules.specs.Run.{StepIsLawful, RunsAreLawful};
-ghost use Rattle.rules.specs.Sound.{SoundIsKept};
+ghost use Rattle.rules.specs.Sound.{SoundIsKept, SoundSuffices};
 ghost use Rattle.rules.specs.Takes.{BookDoes};
 
 // The worked examples, of the definitions, on a seat that can be opened; and every message's checks run in the order of their numbers.
@@ -34,9 +34,10 @@ pub fn the_law_bites() -> u8
     0
 }
 
-// What an engine over a book relies on: soundness is kept, a take is a fill and a removal a kill, and the reports of a message have room.
+// What an engine over a book relies on: soundness is kept and suffices, a take is a fill and a removal a kill, and the reports of a message have room.
 pub fn engines_can_follow() -> u8
     ensures sound { λ _. ⌜ SoundIsKept ⌝ }
+    ensures suffices { λ _. ⌜ SoundSuffices ⌝ }
     ensures book { λ _. ⌜ BookDoes ⌝ }
     ensures room { λ _. ⌜ RoomForReports ⌝ }
 {
