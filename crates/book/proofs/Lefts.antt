@@ -1,17 +1,20 @@
 -- What takes, entries and removals do to what is left of each number.
 use mathlib.Core.Path.{_≡_, refl, sym, ap, _∙_}
 use mathlib.Core.List.{List, [], _∷_, _++_}
-use mathlib.Core.Bool.{Bool, true, false, cond, not, _||_, _&&_}
+use mathlib.Core.Bool.{Bool, true, false, cond, not, _&&_}
 use Prim.Native.Nat.{ℕ, _+_, _-_, _≤_}
 use native.Mathlib.Omega.{arith}
+use mathlib.Core.Logic.{⊎-elim}
 use lib.Dec.{eqb, leb}
-use Rattle.std.proofs.shelf.Tests.{ne-eqb, eqb-true, eqb-false, leb-true, and-parts, or-parts, not-true, cond-both, cond-true}
+use Rattle.units.specs.Ranges.{within, is-whole}
+use Rattle.std.proofs.shelf.Tests.{eq-eqb, ne-eqb, eqb-true, eqb-false, le-leb, leb-true, lt-ltb, and-parts, and-from, and-left, or-parts, not-true, both-ways, cases-bool, cond-both, cond-true}
 use Rattle.units.specs.declared.side.Side.{Side}
 use Rattle.units.specs.declared.side.Side.the-variants.{Buy, Sell}
 use Rattle.book.specs.declared.Offer.{Offer}
-use Rattle.book.specs.Meaning.{Meaning, numbered, has, left-of, taken, without, lots, side-of, with-side, can-take, after-take, can-enter, after-enter, after-remove}
-use Rattle.book.specs.Laws.{distinct, sound}
-use Rattle.book.proofs.Sound.{side-distinct, enters}
+use Rattle.book.specs.Meaning.{Meaning, numbered, has, left-of, taken, without, lots, list-takes, in-range, side-of, with-side, can-take, after-take, can-enter, after-enter, after-remove}
+use Rattle.book.specs.Laws.{all-in-range, distinct, sound}
+use Rattle.book.proofs.Ranges.{range-parts, within-parts}
+use Rattle.book.proofs.Sound.{sound-parts, side-distinct, enters}
 
 pub left-none : (os : List Offer) (n : ℕ) → has os n ≡ false → left-of os n ≡ 0
 left-none [] n h = refl
@@ -103,3 +106,42 @@ open-without m Sell n x d = omega (arith, left-without (m .sells) n x d)
 pub open-after-remove : (most : ℕ) (m : Meaning) (s : Side) (n x : ℕ) → sound most m ≡ true → has (side-of m s) n ≡ true → open-of (after-remove m s n) x + cond (eqb n x) (left-of (side-of m s) n) 0 ≡ open-of m x
 open-after-remove most m s n x h t =
     ap (λ (z : Meaning). open-of z x + cond (eqb n x) (left-of (side-of m s) n) 0) (cond-true (has (side-of m s) n) (with-side m s (without (side-of m s) n)) m t) ∙ open-without m s n x (side-distinct most m s h)
+
+-- A take of all that is left is a removal.
+
+taken-whole : (os : List Offer) (n a : ℕ) → left-of os n ≡ a → taken os n a ≡ without os n
+taken-whole [] n a e = refl
+taken-whole (o ∷ os) n a e = go (numbered n o) refl (taken-whole os n a)
+  where
+    go : (b : Bool) → numbered n o ≡ b → (left-of os n ≡ a → taken os n a ≡ without os n) → taken (o ∷ os) n a ≡ without (o ∷ os) n
+    go true t r = let l : o .left .0 ≡ a = simp t at e in simp (t, eq-eqb _ _ l)
+    go false t r = simp (t, r (simp t at e))
+
+left-lots : (lot : ℕ) (os : List Offer) (n : ℕ) → all-in-range lot os ≡ true → has os n ≡ true → lots lot (left-of os n) ≡ true
+left-lots lot [] n r h = absurd (both-ways false refl h)
+left-lots lot (o ∷ os) n r h = go (numbered n o) refl (left-lots lot os n)
+  where
+    p : (in-range lot o ≡ true) × (all-in-range lot os ≡ true)
+    p = and-parts (in-range lot o) (all-in-range lot os) r
+
+    q : (within 1 1000000 (o .left .0) ≡ true) × (is-whole lot (o .left .0) ≡ true)
+    q = and-parts (within 1 1000000 (o .left .0)) (is-whole lot (o .left .0)) (range-parts lot o (p .0) .left)
+
+    go : (b : Bool) → numbered n o ≡ b → (all-in-range lot os ≡ true → has os n ≡ true → lots lot (left-of os n) ≡ true) → lots lot (left-of (o ∷ os) n) ≡ true
+    go true t f = let l = within-parts 1 1000000 (o .left .0) (q .0) in simp t (and-from _ _ (lt-ltb 0 (o .left .0) (l .0)) (q .1))
+    go false t f = simp t (f (p .1) (simp t at h))
+
+takes-whole : (lot : ℕ) (os : List Offer) (n : ℕ) → all-in-range lot os ≡ true → list-takes lot os n (left-of os n) ≡ has os n
+takes-whole lot os n r =
+    ⊎-elim
+    (λ h. and-from _ _ h (and-from _ _ (left-lots lot os n r h) (le-leb (left-of os n) (left-of os n) (omega arith))) ∙ sym h)
+    (λ h. and-left (has os n) (lots lot (left-of os n) && leb (left-of os n) (left-of os n)) h ∙ sym h)
+    (cases-bool (has os n))
+
+pub take-whole : (most : ℕ) (m : Meaning) (s : Side) (n : ℕ) → sound most m ≡ true
+    → (can-take m s n (left-of (side-of m s) n) ≡ has (side-of m s) n) × (after-take m s n (left-of (side-of m s) n) ≡ after-remove m s n)
+take-whole most m s n h =
+    let os = side-of m s in
+    let l = left-of os n in
+    let c = takes-whole (m .lot) os n (sound-parts most m h .ranged s) in
+    (c, ap (λ (b : Bool). cond b (with-side m s (taken os n l)) m) c ∙ ap (λ (xs : List Offer). cond (has os n) (with-side m s xs) m) (taken-whole os n l refl))

@@ -1,8 +1,6 @@
-pub mod Places
-pub mod Stored
+pub mod Answers
 pub mod Sublists
 pub mod Ranges
 pub mod Sound
 pub mod Lefts
-pub mod Standing
-pub mod Raising
+pub mod Telling

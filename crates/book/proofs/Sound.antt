@@ -1,7 +1,7 @@
 -- The laws of a book, as a record and as one test; takes, entries and removals keep them.
-use mathlib.Core.Path.{_≡_, refl, sym, ap, subst, _∙_}
+use mathlib.Core.Path.{_≡_, refl, sym, subst}
 use mathlib.Core.List.{List, [], _∷_, _++_}
-use mathlib.Core.Bool.{Bool, true, false, cond, not, _&&_}
+use mathlib.Core.Bool.{true, false, cond, not, _&&_}
 use Prim.Native.Nat.{ℕ, _≤_, _<_}
 use native.Mathlib.Omega.{arith}
 use lib.Dec.{leb, ltb}
@@ -107,3 +107,12 @@ sound-took most m s n a os h e =
 pub sound-removed : (most : ℕ) (m : Meaning) (s : Side) (n : ℕ) (os : List Offer) → sound most m ≡ true → os ≡ cond (has (side-of m s) n) (without (side-of m s) n) (side-of m s) → sound most (with-side m s os) ≡ true
 sound-removed most m s n os h e =
     subst (λ (xs : List Offer). sound most (with-side m s xs) ≡ true) (sym e) (cond-both (has (side-of m s) n) _ _ (λ xs. sound most (with-side m s xs) ≡ true) (λ _. sound-without most m s n h) (λ _. same most m s h))
+
+pub sound-after-remove : (most : ℕ) (m : Meaning) (s : Side) (n : ℕ) → sound most m ≡ true → sound most (after-remove m s n) ≡ true
+sound-after-remove most m s n h = cond-both (has (side-of m s) n) _ _ (λ z. sound most z ≡ true) (λ _. sound-without most m s n h) (λ _. h)
+
+-- a kind that allows more offers a side
+pub sound-wider : (few more : ℕ) (m : Meaning) → few ≤ more → sound few m ≡ true → sound more m ≡ true
+sound-wider few more m w h =
+    let p = sound-parts few m h in
+    sound-from more m (record { lot = p .lot; few = λ s. omega (arith, p .few s); ranged = p .ranged; apart = p .apart })

@@ -1,17 +1,13 @@
 -- Why the making of a book is refused, and what its place holds after.
-use mathlib.Core.List.{[]}
-use mathlib.Core.Bool.{Bool, true, false, cond}
-use Prim.Native.Nat.{ℕ}
 use Rattle.std.specs.declared.option.Option.{Option}
 use Rattle.std.specs.declared.option.Option.the-variants.{Some, None}
 use Rattle.std.specs.declared.result.Result.{Result}
 use Rattle.std.specs.declared.result.Result.the-variants.{Ok, Err}
-use Rattle.units.specs.Ranges.{is-lot}
 use Rattle.units.specs.declared.refusal.Refusal.{Refusal}
 use Rattle.units.specs.declared.refusal.Refusal.the-variants as refusals
 use Rattle.book.specs.declared.MakeError.{MakeError}
 use Rattle.book.specs.declared.MakeError.the-variants.{Price, Quantity, Full}
-use Rattle.book.specs.Meaning.{Meaning, meaning-of}
+use Rattle.book.specs.Meaning.{Meaning}
 
 -- the refusal that stands for each, with its number
 abbrev pub refusal-of : MakeError → Refusal
@@ -29,9 +25,12 @@ abbrev pub filled-unless : Option MakeError → Meaning → Option Meaning → O
 filled-unless None new old = Some new
 filled-unless (Some e) new old = old
 
--- a kept book starts empty, of any lot in range
-abbrev pub kept-refused : ℕ → Option MakeError
-kept-refused lot = cond (is-lot lot) None (Some Quantity)
+-- the same of a book made by value
+abbrev pub made-as : Option MakeError → Meaning → Result Meaning MakeError
+made-as None new = Ok new
+made-as (Some e) new = Err e
 
-abbrev pub empty-book : ℕ → Meaning
-empty-book lot = meaning-of [] [] lot
+-- what such a result means, where a book of the kind means f of it
+abbrev pub result-means : {B : Type 0} → (B → Meaning) → Result B MakeError → Result Meaning MakeError
+result-means f (Ok b) = Ok (f b)
+result-means f (Err e) = Err e

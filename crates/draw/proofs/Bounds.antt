@@ -2,9 +2,9 @@
 use Prim.Native.Nat.{ℕ, _%_, _≤_, _<_}
 use native.Mathlib.Omega.{arith}
 use mathlib.Core.Path.{_≡_}
-use mathlib.Core.Bool.{Bool, true, _&&_}
+use mathlib.Core.Bool.{true}
 use mathlib.Core.List.{List}
-use lib.Dec.{eqb, leb}
+use lib.Dec.{leb}
 use lib.ListN.{length, getD}
 use Rattle.std.specs.shelf.Lists.{All}
 use Rattle.std.proofs.shelf.Elements.{all-getD, all-weaker}
@@ -36,3 +36,6 @@ sound-whole lot os a = all-weaker (Sound lot) (λ o. o .left .0 % lot ≡ 0) (λ
 
 pub sound-some : (lot : ℕ) (os : List Eligible) → All (Sound lot) os → All (λ o. 0 < o .left .0) os
 sound-some lot os a = all-weaker (Sound lot) (λ o. 0 < o .left .0) (λ o h. (let b = quantity-bounds lot (o .left .0) (h .left) .0 in omega arith)) os a
+
+pub sound-prices : (lot : ℕ) (os : List Eligible) → All (Sound lot) os → All (λ o. is-price (o .price .0) ≡ true) os
+sound-prices lot os a = all-weaker (Sound lot) (λ o. is-price (o .price .0) ≡ true) (λ o h. h .price) os a

@@ -1,12 +1,10 @@
 -- The money of the first units in a ranked order is the best that any draw of as many units has.
-use Prim.Native.Nat.{ℕ, _+_, _-_, _*_, _%_, _≤_, _<_, min}
-use native.Mathlib.Nat.{mul-add, mul-zero, zero-add, zero-min, zero-sub, add-zero}
+use Prim.Native.Nat.{ℕ, _+_, _-_, _*_, _%_, _≤_, min}
+use native.Mathlib.Nat.{mul-add, mul-zero, zero-add, zero-min, zero-sub}
 use native.Mathlib.Omega.{arith}
-use mathlib.Core.Path.{_≡_, refl, sym, ap, subst, _∙_}
-use mathlib.Core.Bool.{Bool, true, false, cond}
+use mathlib.Core.Path.{_≡_, refl, sym, ap, ap₂, subst, _∙_}
+use mathlib.Core.Bool.{false}
 use mathlib.Core.List.{List, [], _∷_}
-use mathlib.Core.Logic.{_⊎_, inl, inr}
-use lib.Dec.{eqb}
 use Rattle.std.specs.shelf.Lists.{All, sumBy}
 use Rattle.std.proofs.shelf.Elements.{all-weaker}
 use Rattle.std.proofs.shelf.Sums.{sumBy-cons}
@@ -138,7 +136,7 @@ all-both P Q R f (x ∷ xs) p q = (f x (p .0) (q .0), all-both P Q R f xs (p .1)
 
 pub sumBy-same : {X : Type 0} (f g : X → ℕ) (xs : List X) → All (λ x. f x ≡ g x) xs → sumBy f xs ≡ sumBy g xs
 sumBy-same f g [] a = refl
-sumBy-same f g (x ∷ xs) a = rw (sumBy-cons, sumBy-cons) (let h = sumBy-same f g xs (a .1) in omega (arith, a .0))
+sumBy-same f g (x ∷ xs) a = sumBy-cons f x xs ∙ (ap₂ (λ m n. m + n) (a .0) (sumBy-same f g xs (a .1)) ∙ sym (sumBy-cons g x xs))
 
 -- what it takes of the first offer, and of the others
 poured-first : (o : Eligible) (os : List Eligible) (n : ℕ) → poured (o ∷ os) n (named o) ≡ min n (o .left .0)

@@ -5,7 +5,6 @@ use native.Mathlib.Omega.{arith}
 use mathlib.Core.Path.{_≡_, refl, sym, ap, _∙_}
 use mathlib.Core.Bool.{Bool, true, false, cond, not, _||_, _&&_}
 use mathlib.Core.List.{List, [], _∷_, map}
-use mathlib.Core.Logic.{_⊎_, inl, inr}
 use lib.Dec.{eqb}
 use lib.ListN.{length, getD, drop}
 use Rattle.std.specs.shelf.Lists.{countBy, kept-by}
@@ -13,11 +12,10 @@ use Rattle.std.specs.Holes.{between}
 use Rattle.std.proofs.shelf.Lists.{drop-more, drop-all}
 use Rattle.std.proofs.shelf.Parts.{between-to-end}
 use Rattle.std.proofs.shelf.Sums.{sumBy-cons}
-use Rattle.std.proofs.shelf.Tests.{cond-true, cond-false, eqb-true, cases-bool}
+use Rattle.std.proofs.shelf.Tests.{eqb-true}
 use Rattle.draw.specs.Firms.{firms-of, among, once, different, Each-once}
 
 module _ {X : Type 0} (firm : X → ℕ) (request : X → ℕ) (n : ℕ) where
-
   abbrev fs : List X → List ℕ
   fs xs = firms-of firm request n xs
 
@@ -34,13 +32,13 @@ module _ {X : Type 0} (firm : X → ℕ) (request : X → ℕ) (n : ℕ) where
       more : (b : Bool) → length (cond b (once (fs xs)) (firm x ∷ once (fs xs))) ≡ cond (not b) 1 0 + different (fs xs)
       more true = sym (zero-add _)
       more false = omega arith
+
       go : (b : Bool) → different (map firm (cond b (x ∷ kept-by (λ y. eqb (request y) n) xs) (kept-by (λ y. eqb (request y) n) xs))) ≡ cond (b && not (among (firm x) (fs xs))) 1 0 + different (fs xs)
       go true = more (among (firm x) (fs xs))
       go false = sym (zero-add _)
 
   -- by places, where x stands at the place i
   module _ (xs : List X) (i : ℕ) (x : X) (l : i < length xs) (is : x ≡ getD xs i x) where
-
     here : drop i xs ≡ x ∷ drop (i + 1) xs
     here = drop-more xs i x l ∙ ap (λ y. y ∷ drop (i + 1) xs) (sym is)
 

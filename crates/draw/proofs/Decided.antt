@@ -1,32 +1,43 @@
 -- From what the walk finds to what the public calls on draws promise.
-use Prim.Native.Nat.{ℕ, _*_, _≤_, _<_, min}
+use Prim.Native.Nat.{ℕ, _*_, _≤_, _<_}
 use native.Mathlib.Omega.{arith}
-use mathlib.Core.Path.{_≡_, refl, sym, ap, ap₂, subst, _∙_}
+use mathlib.Core.Path.{_≡_, sym, ap, ap₂, subst, _∙_}
 use mathlib.Core.Bool.{Bool, true, false, cond}
 use mathlib.Core.List.{List}
-use lib.Dec.{leb}
-use Rattle.std.specs.shelf.Lists.{All, sumBy}
+use Rattle.std.specs.shelf.Lists.{All}
 use Rattle.std.specs.Slices.{Shuffled}
 use Rattle.std.specs.declared.option.Option.{Option}
-use Rattle.std.specs.declared.option.Option.the-variants.{Some, None}
+use Rattle.std.specs.declared.option.Option.the-variants.{None}
 use Rattle.std.proofs.shelf.Sorted.{all-shuffled, sumBy-shuffled}
 use Rattle.std.proofs.shelf.Tests.{le-leb, lt-leb, cond-true, cond-false}
 use Rattle.units.specs.Ranges.{is-lot, is-quantity}
 use Rattle.units.specs.declared.side.Side.{Side}
 use Rattle.units.specs.declared.Quantity.{Quantity}
 use Rattle.units.specs.declared.Money.{Money}
-use Rattle.ranked.specs.Lists.{Order, Apart, ranked}
+use Rattle.ranked.specs.Lists.{Apart, ranked}
 use Rattle.ranked.proofs.Placing.{ranked-shuffled}
-use Rattle.ranked.proofs.Sorting.{any-order}
+use Rattle.ranked.proofs.Sorting.{any-order, apart-shuffled}
 use Rattle.draw.specs.declared.offers.Eligible.{Eligible}
-use Rattle.draw.specs.Offers.{Sound, named}
-use Rattle.draw.specs.Rankings.{better-price}
-use Rattle.draw.specs.Draws.{Draw, size, money, totals, Good, GoodAutomatic, Decides, poured}
+use Rattle.draw.specs.Offers.{Ready, Pourable, Sound, named}
+use Rattle.draw.specs.Rankings.{request-before}
+use Rattle.draw.specs.Draws.{money, totals, Good, Decides, poured}
 use Rattle.draw.specs.Walk.{walk, answered, decided}
 use Rattle.draw.specs.Decisions.{Confirms, Serves, Shows, automatic}
-use Rattle.draw.proofs.Bounds.{lot-bounds, quantity-bounds, sound-whole}
+use Rattle.draw.proofs.Orders.{request-order, request-better}
+use Rattle.draw.proofs.Bounds.{lot-bounds, quantity-bounds, sound-whole, sound-some}
 use Rattle.draw.specs.Sides.{NoWorse}
 use Rattle.draw.proofs.Finds.{Priced, Lots, same-size, same-money, poured-size, poured-best, walk-decides, decides-alike, automatic-good, good-automatic}
+
+-- a list that is ranked under a condition
+pub unless : (b : Bool) (xs ys : List Eligible) → b ≡ false → ys ≡ cond b xs ys
+unless b xs ys e = sym (cond-false b xs ys e)
+
+pub where-so : (b : Bool) (xs ys zs : List Eligible) → b ≡ true → zs ≡ xs → zs ≡ cond b xs ys
+where-so b xs ys zs e h = h ∙ sym (cond-true b xs ys e)
+
+-- the request ranking meets what best terms rest on
+pub request-priced : (s : Side) (os : List Eligible) → Apart named os → Priced s (request-before s) os
+request-priced s os a = record { apart = a; order = request-order s; better-first = request-better s }
 
 -- ranked offers are as sound as they came
 pub ranked-sound : (before : Eligible → Eligible → Bool) (lot : ℕ) (os rs : List Eligible) → rs ≡ ranked before os → All (Sound lot) os → All (Sound lot) rs
@@ -34,6 +45,14 @@ ranked-sound before lot os rs e a = subst (All (Sound lot)) (sym e) (all-shuffle
 
 pub lots : (lot most : ℕ) (os : List Eligible) → is-lot lot ≡ true → is-quantity lot most ≡ true → All (Sound lot) os → Lots lot most os
 lots lot most os l q a = record { some = (let b = lot-bounds lot l .0 in omega arith); whole-most = quantity-bounds lot most q .2; whole = sound-whole lot os a }
+
+pub ready-pourable : (lot most : ℕ) (os : List Eligible) → Ready lot most os → Pourable os
+ready-pourable lot most os r = record { apart = r .apart; some = sound-some lot os (r .sound) }
+
+pub ranked-pourable : (before : Eligible → Eligible → Bool) (lot most : ℕ) (os rs : List Eligible) → rs ≡ ranked before os → Ready lot most os → Pourable rs
+ranked-pourable before lot most os rs e r =
+    subst Pourable (sym e)
+    record { apart = apart-shuffled named os (ranked before os) (ranked-shuffled before os) (r .apart); some = all-shuffled _ os (ranked before os) (ranked-shuffled before os) (sound-some lot os (r .sound)) }
 
 -- the answer to what the code's walk came to
 pub answer-is : (s s′ : Side) (lot price least most : ℕ) (rs rs′ : List Eligible) (n m : ℕ) (r : Option (Quantity × Money)) → r ≡ answered least (n, m) →

@@ -5,7 +5,7 @@ use native.Mathlib.Omega.{arith}
 use mathlib.Core.Path.{_≡_, refl, sym, ap, ap₂, subst, _∙_}
 use mathlib.Core.Bool.{Bool, true, false, cond, _&&_}
 use mathlib.Core.List.{List, [], _∷_}
-use mathlib.Core.Logic.{_⊎_, inl, inr}
+use mathlib.Core.Logic.{inl, inr}
 use lib.Dec.{leb, ltb}
 use Rattle.std.specs.shelf.Lists.{All, sumBy}
 use Rattle.std.specs.Slices.{Shuffled}
@@ -19,7 +19,7 @@ use Rattle.units.specs.declared.side.Side.{Side}
 use Rattle.units.specs.declared.side.Side.the-variants.{Buy, Sell}
 use Rattle.units.specs.declared.Quantity.{Quantity}
 use Rattle.units.specs.declared.Money.{Money}
-use Rattle.ranked.specs.Lists.{Order, Apart, In-order, ranked}
+use Rattle.ranked.specs.Lists.{Order, Apart, ranked}
 use Rattle.ranked.proofs.Placing.{ranked-shuffled}
 use Rattle.ranked.proofs.Sorting.{Distinct, distinct-from-apart, apart-shuffled, ranked-in-order, in-order-coarser}
 use Rattle.draw.specs.declared.offers.Eligible.{Eligible}
@@ -30,7 +30,7 @@ use Rattle.draw.specs.Draws.{Draw, size, money, IsDraw, Good, GoodAutomatic, p
 use Rattle.draw.specs.Walk.{walk, answered}
 use Rattle.draw.proofs.Sides.{same-no-worse, whole-add}
 use Rattle.draw.proofs.Cost.{PriceFirst, price-first, cost, held, cost-min, least-cost, poured-totals, poured-draw, poured-only}
-use Rattle.draw.proofs.Reaching.{Reach, Walked, walked}
+use Rattle.draw.proofs.Reaching.{Reach, walked}
 
 -- what best terms rest on: numbers apart, a ranking, and the better price first
 pub record Priced (s : Side) (before : Eligible → Eligible → Bool) (os : List Eligible) : Type 0 where

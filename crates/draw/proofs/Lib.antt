@@ -9,3 +9,5 @@ pub mod Decided
 pub mod Pouring
 pub mod Counting
 pub mod Marks
+pub mod Gathering
+pub mod Fairness

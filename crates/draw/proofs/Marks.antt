@@ -1,7 +1,7 @@
 -- The worked examples hold.
 use Prim.Native.Nat.{ℕ}
 use native.Mathlib.Omega.{arith}
-use mathlib.Core.Path.{_≡_, refl}
+use mathlib.Core.Path.{refl}
 use mathlib.Core.List.{List}
 use Rattle.units.specs.declared.side.Side.{Side}
 use Rattle.units.specs.declared.side.Side.the-variants.{Buy, Sell}
@@ -13,16 +13,12 @@ use Rattle.draw.specs.Draws.{Good, Decides}
 use Rattle.draw.specs.Walk.{walk, decided}
 use Rattle.draw.specs.Examples.{sellers, bidders, few, Worked}
 use Rattle.ranked.specs.Lists.{ranked}
-use Rattle.draw.proofs.Orders.{request-order, request-better}
-use Rattle.draw.proofs.Finds.{Priced, Lots, walk-decides}
-
--- offers with different numbers meet what the theorem asks
-priced : (s : Side) (os : List Eligible) → Distinct named os → Priced s (request-before s) os
-priced s os d = record { apart = apart-from-distinct named os d; order = request-order s; better-first = request-better s }
+use Rattle.draw.proofs.Finds.{Lots, walk-decides}
+use Rattle.draw.proofs.Decided.{request-priced}
 
 confirmed : (s : Side) (os : List Eligible) → Distinct named os → (lot price least most : ℕ) → Lots lot most os →
     Decides s (request-before s) os (Good s lot price least most os) (decided s lot price least most (ranked (request-before s) os))
-confirmed s os d lot price least most l = walk-decides s (request-before s) os (priced s os d) lot price least most l
+confirmed s os d lot price least most l = walk-decides s (request-before s) os (request-priced s os (apart-from-distinct named os d)) lot price least most l
 
 sellers-apart : Distinct named sellers
 sellers-apart = (((λ e. omega arith), ((λ e. omega arith), tt)), (((λ e. omega arith), tt), (tt, tt)))
@@ -41,23 +37,31 @@ at-few least = confirmed Buy few few-apart 1 1 least 3 (record { some = omega ar
 
 pub worked : Worked
 unfolding walk
-worked =
-    ( (refl, refl)
-    , ( (refl, refl)
-      , ( at-sellers 992 0
-        , ( at-sellers 991 0
-          , ( at-sellers 980 0
-            , ( at-sellers 979 0
-              , ( at-sellers 991 4440
-                , ( at-sellers 991 4450
-                  , ( confirmed Sell bidders bidders-apart 10 995 0 3000 (record { some = omega arith; whole-most = refl; whole = (refl, (refl, tt)) })
-                    , (refl, ((refl, refl), (at-few 0, (at-few 3, (refl, tt)))))
-                    )
-                  )
-                )
-              )
-            )
-          )
-        )
-      )
-    )
+worked = (
+  (refl, refl),
+  (
+    (refl, refl),
+    (
+      at-sellers 992 0,
+      (
+        at-sellers 991 0,
+        (
+          at-sellers 980 0,
+          (
+            at-sellers 979 0,
+            (
+              at-sellers 991 4440,
+              (
+                at-sellers 991 4450,
+                (
+                  confirmed Sell bidders bidders-apart 10 995 0 3000 (record { some = omega arith; whole-most = refl; whole = (refl, (refl, tt)) }),
+                  (refl, ((refl, refl), (at-few 0, (at-few 3, (refl, tt))))),
+                ),
+              ),
+            ),
+          ),
+        ),
+      ),
+    ),
+  ),
+)

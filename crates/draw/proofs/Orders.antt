@@ -23,3 +23,6 @@ trading-order s = then-order (better-price s) _ (better-ranks s) named (lower-or
 
 pub request-better : (s : Side) (x y : Eligible) → better-price s x y ≡ true → request-before s x y ≡ true
 request-better s x y e = ap (λ b. b || (not (better-price s y x) && then-by answers-first (then-by more-left (lower named)) x y)) e
+
+pub trading-better : (s : Side) (x y : Eligible) → better-price s x y ≡ true → trading-before s x y ≡ true
+trading-better s x y e = ap (λ b. b || (not (better-price s y x) && lower named x y)) e

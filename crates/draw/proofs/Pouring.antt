@@ -5,20 +5,20 @@ use native.Mathlib.Omega.{arith}
 use mathlib.Core.Path.{_≡_, refl, sym, ap, ap₂, subst, fun-ext, _∙_}
 use mathlib.Core.Bool.{Bool, true, false, cond}
 use mathlib.Core.List.{List, [], _∷_, _++_, map, append-assoc, append-nil}
-use mathlib.Core.Logic.{_⊎_, inl, inr}
+use mathlib.Core.Logic.{inl, inr}
 use lib.Dec.{eqb}
 use lib.ListN.{length, getD, drop, take}
 use Rattle.std.specs.shelf.Lists.{All, sumBy, countBy}
 use Rattle.std.proofs.shelf.Elements.{all-weaker}
 use Rattle.std.proofs.shelf.Lists.{drop-more, drop-all}
 use Rattle.std.proofs.shelf.Sums.{sumBy-cons}
-use Rattle.std.proofs.shelf.Tests.{cond-true, cond-false, ne-eqb, eqb-true, cases-eq}
+use Rattle.std.proofs.shelf.Tests.{cond-false, ne-eqb, eqb-true, cases-eq}
 use Rattle.ranked.specs.Lists.{Apart}
 use Rattle.ranked.proofs.Sorting.{Distinct, distinct-from-apart}
 use Rattle.draw.specs.declared.offers.Eligible.{Eligible}
 use Rattle.draw.specs.declared.fills.Fill.{Fill}
 use Rattle.draw.specs.Offers.{named}
-use Rattle.draw.specs.Draws.{size, money, poured}
+use Rattle.draw.specs.Draws.{poured}
 use Rattle.draw.specs.Fills.{taken, fills, maker-of, offer-of, Fills-up}
 use Rattle.draw.proofs.Cost.{cost, held, cost-zero, poured-totals}
 
@@ -69,12 +69,14 @@ taken-cons o os n k = elim (cases-eq n 0) [ inl e ↦ none e | inr h ↦ some h 
     pick : (b : Bool) (x : ℕ) → x ≡ 0 → cond b x 0 ≡ 0
     pick true x e = e
     pick false x e = refl
+
     none : n ≡ 0 → taken (fills (o ∷ os) n) k ≡ cond (eqb k (named o)) (min n (o .left .0)) 0 + taken (fills os (n - o .left .0)) k
     none e =
         let l = ap (λ v. taken v k) (ap (fills (o ∷ os)) e ∙ fills-none (o ∷ os)) in
         let r = ap (λ v. taken v k) (ap (fills os) (let z : n - o .left .0 ≡ 0 = omega arith in z) ∙ fills-none os) in
         let p = pick (eqb k (named o)) (min n (o .left .0)) (omega arith) in
         omega arith
+
     some : (n ≡ 0 → ⊥) → taken (fills (o ∷ os) n) k ≡ cond (eqb k (named o)) (min n (o .left .0)) 0 + taken (fills os (n - o .left .0)) k
     some h =
         ap (λ v. taken v k) (fills-cons o os n (omega arith))
@@ -113,8 +115,8 @@ unfolding fills
 by-offers P a b f [] n = a n
 by-offers P a b f (o ∷ os) n =
     elim (cases-eq n 0) [
-      inl e ↦ subst (λ m. P (o ∷ os) m (fills (o ∷ os) m)) (sym e) (b o os)
-    | inr h ↦ subst (P (o ∷ os) n) (sym (fills-cons o os n (omega arith))) (f o os n (omega arith) (by-offers P a b f os (n - o .left .0)))
+      | inl e ↦ subst (λ m. P (o ∷ os) m (fills (o ∷ os) m)) (sym e) (b o os)
+      | inr h ↦ subst (P (o ∷ os) n) (sym (fills-cons o os n (omega arith))) (f o os n (omega arith) (by-offers P a b f os (n - o .left .0)))
     ]
 
 in-order : (os : List Eligible) (n : ℕ) → map maker-of (fills os n) ≡ map offer-of (take (length (fills os n)) os)
@@ -151,5 +153,5 @@ fills-up os n a s =
       once = λ k. (let f = fewer k os n in let h = a k in omega arith);
       some = all-some os n s;
       units = sum-units os n ∙ sym (t .0);
-      cash = sum-cash os n ∙ sym (t .1)
+      cash = sum-cash os n ∙ sym (t .1);
     }

@@ -1,19 +1,19 @@
 -- The walk over ranked offers reaches the greatest size, in whole lots, at which the offers' first units are within the price.
-use Prim.Native.Nat.{ℕ, _+_, _-_, _*_, _/_, _%_, _≤_, _<_, min}
-use native.Mathlib.Nat.{mul-add, mul-comm, mul-assoc, div-mul-le-self, le-div-iff-mul-le, div-add-mod', mul-mod-left, mul-pos, mul-le-mul-right, lt-of-mul-lt-mul-left, zero-add, add-assoc, mul-zero, zero-mod}
+use Prim.Native.Nat.{ℕ, _+_, _-_, _*_, _%_, _≤_, _<_, min}
+use native.Mathlib.Nat.{mul-add, mul-mod-left, zero-add, add-assoc, zero-mod}
 use native.Mathlib.Omega.{arith}
-use mathlib.Core.Path.{_≡_, refl, sym, ap, subst, _∙_}
+use mathlib.Core.Path.{_≡_, refl, sym, ap, _∙_}
 use mathlib.Core.Bool.{Bool, true, false, cond}
 use mathlib.Core.List.{List, [], _∷_}
-use mathlib.Core.Logic.{_⊎_, inl, inr}
+use mathlib.Core.Logic.{inl, inr}
 use Rattle.std.specs.shelf.Lists.{All}
 use Rattle.std.proofs.shelf.Tests.{cases-lt}
 use Rattle.draw.specs.Sides.{NoWorse, no-worse}
-use Rattle.draw.specs.Walk.{gap, room, part, walk}
+use Rattle.draw.specs.Walk.{room, part, walk}
 use Rattle.draw.specs.declared.offers.Eligible.{Eligible}
 use Rattle.units.specs.declared.side.Side.{Side}
 use Rattle.units.specs.declared.side.Side.the-variants.{Buy, Sell}
-use Rattle.draw.proofs.Sides.{Worse, test-true, test-false, clash, times, pays, paid, worse-price, whole-add, whole-sub, whole-min, part-paid, part-most, part-room}
+use Rattle.draw.proofs.Sides.{Worse, test-true, test-false, times, pays, paid, worse-price, whole-add, whole-sub, whole-min, part-paid, part-most, part-room}
 use Rattle.draw.proofs.Cost.{PriceFirst, cost, held, cost-zero, cost-step}
 
 -- w units more from size n and money m: as many as may be

@@ -2,10 +2,9 @@
 use Prim.Native.Nat.{ℕ, _+_, _-_, _*_, _/_, _%_, _≤_, _<_, min}
 use native.Mathlib.Nat.{mul-add, add-mul, mul-le-mul-right, mul-comm, mul-assoc, dvd-of-mod-eq-zero, mod-eq-zero-of-dvd, dvd-add, dvd-sub, div-mul-le-self, le-div-iff-mul-le, div-add-mod', mul-pos, lt-of-mul-lt-mul-left}
 use native.Mathlib.Omega.{arith}
-use mathlib.Core.Path.{_≡_, refl, sym, ap, subst, _∙_}
-use mathlib.Core.Bool.{Bool, true, false, cond}
+use mathlib.Core.Path.{_≡_, ap, subst, _∙_}
+use mathlib.Core.Bool.{true, false}
 use mathlib.Core.Logic.{_⊎_, inl, inr}
-use lib.Dec.{leb}
 use Rattle.std.proofs.shelf.Tests.{leb-true, leb-false, cases-lt}
 use Rattle.draw.specs.Sides.{NoWorse, no-worse}
 use Rattle.draw.specs.Walk.{gap, part}

@@ -1,5 +1,5 @@
 -- Draws on a list of offers: what one takes, which are good, and the one that trades.
-use Prim.Native.Nat.{ℕ, _+_, _-_, _*_, _%_, _≤_, _<_, min}
+use Prim.Native.Nat.{ℕ, _-_, _*_, _%_, _≤_, _<_, min}
 use mathlib.Core.Path.{_≡_}
 use mathlib.Core.Bool.{Bool, cond}
 use mathlib.Core.List.{List, [], _∷_}
@@ -46,7 +46,8 @@ pub record Good (s : Side) (lot price least most : ℕ) (os : List Eligible) (x 
   pub fits : size os x ≤ most
   pub within : Within s price os x
 
--- a good draw for an automatic request: exactly its quantity, within its limit, where the living answers to it come from at least so many firms
+-- a good draw for an automatic request: exactly its quantity, within its limit, and of the different firms that the living answers to it
+-- come from there are at least so many
 pub record GoodAutomatic (s : Side) (lot limit quantity least-firms firms : ℕ) (os : List Eligible) (x : Draw) : Type 0 where
   pub draw : IsDraw lot os x
   pub exact : size os x ≡ quantity

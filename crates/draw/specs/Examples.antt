@@ -1,7 +1,6 @@
 -- The worked examples: one statement over their table, of what draws, rankings and statuses are, and not of how they are computed.
 use Prim.Native.Nat.{ℕ}
 use mathlib.Core.Path.{_≡_}
-use mathlib.Core.Bool.{Bool, true, false}
 use mathlib.Core.List.{List, [], _∷_, map}
 use Rattle.std.specs.shelf.Lists.{All}
 use Rattle.std.specs.declared.option.Option.{Option}
@@ -14,7 +13,6 @@ use Rattle.ranked.specs.Lists.{ranked}
 use Rattle.draw.specs.declared.offers.Source.{Source}
 use Rattle.draw.specs.declared.offers.Source.the-variants.{Book, AnswerTo}
 use Rattle.draw.specs.declared.offers.Offered.{Offered}
-use Rattle.draw.specs.declared.offers.Taker.{Taker}
 use Rattle.draw.specs.declared.offers.Eligible.{Eligible}
 use Rattle.draw.specs.Offers.{eligible, named}
 use Rattle.draw.specs.Rankings.{request-before}

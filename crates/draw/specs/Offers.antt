@@ -1,8 +1,8 @@
 -- Which offers a request may draw on.
 use mathlib.Core.Path.{_≡_}
 use mathlib.Core.Bool.{Bool, true, false, cond, _&&_}
-use mathlib.Core.List.{List, [], _∷_, map}
-use Prim.Native.Nat.{ℕ}
+use mathlib.Core.List.{List, map}
+use Prim.Native.Nat.{ℕ, _<_}
 use lib.Dec.{eqb}
 use Rattle.std.specs.shelf.Lists.{All, kept-by}
 use Rattle.std.specs.declared.option.Option.{Option}
@@ -63,3 +63,8 @@ pub record Ready (lot quantity : ℕ) (os : List Eligible) : Type 0 where
   pub fits : is-quantity lot quantity ≡ true
   pub sound : All (Sound lot) os
   pub apart : Apart named os
+
+-- offers that can be emptied one after another: no number names two, and something is left of each
+pub record Pourable (os : List Eligible) : Type 0 where
+  pub apart : Apart named os
+  pub some : All (λ o. 0 < o .left .0) os

@@ -4,10 +4,11 @@ ghost use mathlib.Core.Bool.{true, cond, not};
 ghost use Prim.Native.Nat.{_≤_};
 ghost use lib.Dec.{leb};
 ghost use lib.ListN.{length, take, drop};
+ghost use Rattle.std.specs.Options.{isSome};
 ghost use Rattle.std.specs.shelf.Lists.{All};
 ghost use Rattle.units.specs.Ranges.{is-price};
 ghost use Rattle.ranked.specs.Lists.{Apart, ranked};
-ghost use Rattle.draw.specs.Offers.{Ready, named};
+ghost use Rattle.draw.specs.Offers.{Ready, Pourable, named};
 ghost use Rattle.draw.specs.Walk.{answered};
 ghost use Rattle.draw.specs.Decisions.{Confirms, Serves, Shows};
 use super::Eligible;
@@ -48,6 +49,7 @@ fn rank_and_walk<R: OfferRanking>(
     ensures result { λ r. ⌜ Confirms (favours (now (rule .entry))) (R·Ranking .before (now (rule .entry))) (lot .0) (price .0) (least .0) (most .0) (take n (now (offers .entry))) r ⌝ }
     ensures first { λ _. ⌜ take n (now (offers .exit)) ≡ ranked (R·Ranking .before (now (rule .entry))) (take n (now (offers .entry))) ⌝ }
     ensures rest { λ _. ⌜ drop n (now (offers .exit)) ≡ drop n (now (offers .entry)) ⌝ }
+    ensures pourable { λ _. ⌜ Pourable (take n (now (offers .exit))) ⌝ }
 {
     rank(rule, offers, n);
     answer(walk(&offers[..n], rule.side(), lot, price, most), least)
@@ -69,6 +71,7 @@ pub fn decide<R: OfferRanking>(
     ensures result { λ r. ⌜ Confirms (favours (now (rule .entry))) (R·Ranking .before (now (rule .entry))) (lot .0) (price .0) (least .0) (most .0) (take n (now (offers .entry))) r ⌝ }
     ensures first { λ _. ⌜ take n (now (offers .exit)) ≡ ranked (R·Ranking .before (now (rule .entry))) (take n (now (offers .entry))) ⌝ }
     ensures rest { λ _. ⌜ drop n (now (offers .exit)) ≡ drop n (now (offers .entry)) ⌝ }
+    ensures pourable { λ _. ⌜ Pourable (take n (now (offers .exit))) ⌝ }
 {
     rank_and_walk(rule, offers, n, lot, price, least, most)
 }
@@ -96,7 +99,9 @@ fn serve<R: OfferRanking>(
     requires price { ⌜ is-price (limit .0) ≡ true ⌝ }
     ensures result { λ r. ⌜ Serves (favours (now (rule .entry))) (R·Ranking .before (now (rule .entry))) (lot .0) (limit .0) (quantity .0) («least_firms» .0) (firms .0) (take n (now (offers .entry))) r ⌝ }
     ensures first { λ _. ⌜ take n (now (offers .exit)) ≡ cond (leb («least_firms» .0) (firms .0)) (ranked (R·Ranking .before (now (rule .entry))) (take n (now (offers .entry)))) (take n (now (offers .entry))) ⌝ }
+    ensures found { λ r. ⌜ (isSome r ≡ true → take n (now (offers .exit)) ≡ ranked (R·Ranking .before (now (rule .entry))) (take n (now (offers .entry)))) ⌝ }
     ensures rest { λ _. ⌜ drop n (now (offers .exit)) ≡ drop n (now (offers .entry)) ⌝ }
+    ensures pourable { λ _. ⌜ Pourable (take n (now (offers .exit))) ⌝ }
 {
     if too_few(firms, least_firms) {
         return None;
@@ -120,7 +125,9 @@ pub fn decide_automatic<R: OfferRanking>(
     requires price { ⌜ is-price (limit .0) ≡ true ⌝ }
     ensures result { λ r. ⌜ Serves (favours (now (rule .entry))) (R·Ranking .before (now (rule .entry))) (lot .0) (limit .0) (quantity .0) («least_firms» .0) (firms .0) (take n (now (offers .entry))) r ⌝ }
     ensures first { λ _. ⌜ take n (now (offers .exit)) ≡ cond (leb («least_firms» .0) (firms .0)) (ranked (R·Ranking .before (now (rule .entry))) (take n (now (offers .entry)))) (take n (now (offers .entry))) ⌝ }
+    ensures found { λ r. ⌜ (isSome r ≡ true → take n (now (offers .exit)) ≡ ranked (R·Ranking .before (now (rule .entry))) (take n (now (offers .entry)))) ⌝ }
     ensures rest { λ _. ⌜ drop n (now (offers .exit)) ≡ drop n (now (offers .entry)) ⌝ }
+    ensures pourable { λ _. ⌜ Pourable (take n (now (offers .exit))) ⌝ }
 {
     serve(rule, offers, n, lot, limit, quantity, least_firms, firms)
 }

@@ -6,8 +6,7 @@ ghost use Rattle.draw.specs.Examples.{table, Worked};
 // Each worked example holds.
 fn examples_hold()
     ensures { λ _. ⌜ Worked ⌝ }
-{
-}
+{}
 
 // How many worked examples there are; all of them hold.
 pub fn worked_examples() -> usize

@@ -3,13 +3,12 @@ ghost use mathlib.Core.Path.{_≡_};
 ghost use mathlib.Core.List.{map};
 ghost use Prim.Native.Nat.{ℕ, _+_, _<_, _≤_, min};
 ghost use lib.ListN.{length};
-ghost use Rattle.std.specs.shelf.Lists.{All};
-ghost use Rattle.ranked.specs.Lists.{Apart};
 ghost use Rattle.ranked.specs.Writes.{Writes};
 ghost use Rattle.draw.specs.declared.fills.Fill.{Fill};
-ghost use Rattle.draw.specs.Offers.{named};
-ghost use Rattle.draw.specs.Fills.{fills, Fills-up};
+ghost use Rattle.draw.specs.Offers.{Pourable};
+ghost use Rattle.draw.specs.Fills.{fills, traded, Fills-up, FairConfirmation, FairTurn};
 use super::Eligible;
+use units::Money;
 use units::Number;
 use units::Price;
 use units::Quantity;
@@ -30,15 +29,6 @@ pub trait TellsFill: Sized {
         ensures { λ r. ⌜ r ≡ tells (taker .0) fill ⌝ };
 }
 
-// A fill by itself, where the taker is known.
-pub impl TellsFill for Fill as FillTellsFill {
-    ghost tells = { λ _ fill. fill };
-
-    fn of_fill(taker: Number, fill: Fill) -> Fill {
-        fill
-    }
-}
-
 // What is filled of an offer where so many units are still to be taken.
 fn fill_of(offer: &Eligible, rest: Quantity) -> Fill
     ensures { λ r. ⌜ r ≡ record { maker = now (offer .entry) .number; price = now (offer .entry) .price; quantity = record { 0 = min (rest .0) (now (offer .entry) .left .0) } } ⌝ }
@@ -51,10 +41,15 @@ fn fill_of(offer: &Eligible, rest: Quantity) -> Fill
 }
 
 // Empties the offers in their order, one fill after another.
-fn write_fills<W: TellsFill + Copy>(offers: &[Eligible], taker: Number, n: Quantity, out: &mut [W], at: usize) -> usize
+fn write_fills<W: TellsFill + Copy>(
+    offers: &[Eligible],
+    taker: Number,
+    n: Quantity,
+    out: &mut [W],
+    at: usize,
+) -> usize
     requires places { ⌜ at + length (now offers) ≤ length (now out) ⌝ }
-    requires apart { ⌜ Apart named (now offers) ⌝ }
-    requires some { ⌜ All (λ o. 0 < o .left .0) (now offers) ⌝ }
+    requires offers { ⌜ Pourable (now offers) ⌝ }
     ensures written { λ r. ⌜ Writes (now (out .entry)) (now (out .exit)) at r (map (tells (taker .0)) (fills (now (offers .entry)) (n .0))) ⌝ }
     ensures draw { λ _. ⌜ Fills-up (now (offers .entry)) (n .0) (fills (now (offers .entry)) (n .0)) ⌝ }
     ensures few { λ r. ⌜ r ≤ at + length (now (offers .entry)) ⌝ }
@@ -74,13 +69,57 @@ fn write_fills<W: TellsFill + Copy>(offers: &[Eligible], taker: Number, n: Quant
 }
 
 // Writes the fills that empty ranked offers until `n` units are reached, from the place `at` on; answers the place behind the last.
-pub fn pour<W: TellsFill + Copy>(offers: &[Eligible], taker: Number, n: Quantity, out: &mut [W], at: usize) -> usize
+pub fn pour<W: TellsFill + Copy>(
+    offers: &[Eligible],
+    taker: Number,
+    n: Quantity,
+    out: &mut [W],
+    at: usize,
+) -> usize
     requires places { ⌜ at + length (now offers) ≤ length (now out) ⌝ }
-    requires apart { ⌜ Apart named (now offers) ⌝ }
-    requires some { ⌜ All (λ o. 0 < o .left .0) (now offers) ⌝ }
+    requires offers { ⌜ Pourable (now offers) ⌝ }
     ensures written { λ r. ⌜ Writes (now (out .entry)) (now (out .exit)) at r (map (tells (taker .0)) (fills (now (offers .entry)) (n .0))) ⌝ }
     ensures draw { λ _. ⌜ Fills-up (now (offers .entry)) (n .0) (fills (now (offers .entry)) (n .0)) ⌝ }
     ensures few { λ r. ⌜ r ≤ at + length (now (offers .entry)) ⌝ }
 {
     write_fills(offers, taker, n, out, at)
+}
+
+// Writes the fills of what was found, if anything was.
+fn pour_found<W: TellsFill + Copy>(
+    offers: &[Eligible],
+    found: Option<(Quantity, Money)>,
+    taker: Number,
+    out: &mut [W],
+    at: usize,
+) -> usize
+    requires places { ⌜ at + length (now offers) ≤ length (now out) ⌝ }
+    requires offers { ⌜ Pourable (now offers) ⌝ }
+    ensures written { λ r. ⌜ Writes (now (out .entry)) (now (out .exit)) at r (map (tells (taker .0)) (traded (now (offers .entry)) found)) ⌝ }
+    ensures confirmed { λ _. ⌜ FairConfirmation (now (offers .entry)) found ⌝ }
+    ensures served { λ _. ⌜ FairTurn (now (offers .entry)) found ⌝ }
+    ensures few { λ r. ⌜ r ≤ at + length (now (offers .entry)) ⌝ }
+{
+    match found {
+        Some((size, _)) => pour(offers, taker, size, out, at),
+        None => at,
+    }
+}
+
+// Carries out a decision on ranked offers: writes its fills from the place `at` on, none where nothing was found; answers the place behind the last.
+pub fn execute<W: TellsFill + Copy>(
+    offers: &[Eligible],
+    found: Option<(Quantity, Money)>,
+    taker: Number,
+    out: &mut [W],
+    at: usize,
+) -> usize
+    requires places { ⌜ at + length (now offers) ≤ length (now out) ⌝ }
+    requires offers { ⌜ Pourable (now offers) ⌝ }
+    ensures written { λ r. ⌜ Writes (now (out .entry)) (now (out .exit)) at r (map (tells (taker .0)) (traded (now (offers .entry)) found)) ⌝ }
+    ensures confirmed { λ _. ⌜ FairConfirmation (now (offers .entry)) found ⌝ }
+    ensures served { λ _. ⌜ FairTurn (now (offers .entry)) found ⌝ }
+    ensures few { λ r. ⌜ r ≤ at + length (now (offers .entry)) ⌝ }
+{
+    pour_found(offers, found, taker, out, at)
 }

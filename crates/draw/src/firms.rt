@@ -12,6 +12,7 @@ use units::Number;
 // An answer to a request, whatever else its record holds.
 pub trait Answering {
     ghost of_firm: { Self → ℕ };
+
     ghost to_request: { Self → ℕ };
 
     fn firm(&self) -> Firm

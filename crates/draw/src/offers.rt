@@ -1,6 +1,5 @@
 // What a request may draw on.
 ghost use mathlib.Core.Path.{_≡_};
-ghost use Prim.Native.Nat.{ℕ};
 ghost use Rattle.draw.specs.Offers.{named, admitted, is-eligible};
 use ranked::Named;
 use units::Firm;

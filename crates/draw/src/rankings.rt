@@ -1,23 +1,10 @@
 // The rankings of offers: one text for both sides, by what is better to a side.
 ghost use mathlib.Core.Path.{_≡_};
-ghost use mathlib.Core.Bool.{true};
-ghost use Rattle.units.specs.declared.side.Side.{Side};
-ghost use Rattle.draw.specs.declared.offers.Eligible.{Eligible};
 ghost use Rattle.draw.specs.Rankings.{better-price, request-before, trading-before};
 use super::Eligible;
 use super::EligibleNamed;
 use ranked::Ranking;
 use units::Side;
-
-// A ranking of offers that puts the better price to its side first. Best terms rest on this and on being a ranking alone.
-pub trait OfferRanking: Ranking<Eligible> {
-    ghost favours: { Self → Side };
-
-    law better_first: { (s : Self) (x y : Eligible) → better-price (favours s) x y ≡ true → Self·Ranking .before s x y ≡ true };
-
-    fn side(&self) -> Side
-        ensures { λ r. ⌜ r ≡ favours (now (self .entry)) ⌝ };
-}
 
 // Whether the price of `a` is better than that of `b` to who is on `side`.
 fn is_better(side: Side, a: &Eligible, b: &Eligible) -> bool
@@ -55,14 +42,6 @@ pub impl Ranking<Eligible> for RequestRanking as RequestRankingOffers {
     }
 }
 
-pub impl OfferRanking for RequestRanking as RequestRankingByPrice {
-    ghost favours = { λ r. r .side };
-
-    fn side(&self) -> Side {
-        self.side
-    }
-}
-
 // The order in which an order that enters on `side` trades: the better price, then the lower number.
 #[derive(Clone, Copy)]
 pub struct TradingRanking {
@@ -77,13 +56,5 @@ pub impl Ranking<Eligible> for TradingRanking as TradingRankingOffers {
             return true;
         }
         !is_better(self.side, b, a) && a.number.0 < b.number.0
-    }
-}
-
-pub impl OfferRanking for TradingRanking as TradingRankingByPrice {
-    ghost favours = { λ r. r .side };
-
-    fn side(&self) -> Side {
-        self.side
     }
 }

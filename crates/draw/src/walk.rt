@@ -1,7 +1,7 @@
 // The walk over ranked offers: size and money of what trades, in one pass.
 ghost use mathlib.Core.Path.{_≡_};
 ghost use mathlib.Core.Bool.{true};
-ghost use Prim.Native.Nat.{ℕ, _+_, _-_, _*_, _^_, _<_, _≤_, min};
+ghost use Prim.Native.Nat.{_+_, _-_, _*_, _^_, _<_, _≤_, min};
 ghost use Rattle.std.specs.shelf.Lists.{All};
 ghost use Rattle.units.specs.Ranges.{is-price, is-quantity, is-lot};
 ghost use Rattle.draw.specs.Sides.{no-worse};

@@ -17,7 +17,7 @@ pub const REFERENCE: usize = 8;
 
 // A message keeps its reference as the eight bytes of its frame. Orders are there by permission only:
 // `Message<'a>` has all seven kinds, and `Message<'a, NoOrders>`, of a book that is not open, has no order.
-#[derive(Clone, Copy)]
+#[derive(Drop)]
 pub enum Message<'a, O = OpenOrders> {
     Order {
         permission: O,

@@ -1,9 +1,9 @@
 -- Writing nothing, one more, and one writing after another.
-use mathlib.Core.Path.{_≡_, refl, sym, ap, ap₂, subst, _∙_}
+use mathlib.Core.Path.{_≡_, refl, sym, ap, subst, _∙_}
 use mathlib.Core.List.{List, [], _∷_, _++_, append-assoc, append-nil}
 use Prim.Native.Nat.{ℕ, _+_, _-_, _≤_, _<_}
 use native.Mathlib.Omega.{arith}
-use lib.ListN.{length, getD, drop, take, set, length-append, length-set}
+use lib.ListN.{length, drop, take, set, length-append, length-set}
 use Rattle.std.proofs.shelf.Lists.{take-more-set, drop-set-lt, drop-drop}
 use Rattle.ranked.specs.Writes.{Writes}
 
@@ -21,7 +21,7 @@ writes-more {X} {old} {new} {a} {n} {xs} x w l =
       behind = drop-set-lt (n + 1) new n x (omega arith) ∙ (sym (drop-drop 1 n new) ∙ (ap (λ (v : List X). drop 1 v) (w .behind) ∙ drop-drop 1 n old));
       count = (let e = length-append xs (x ∷ []) in omega arith);
       long = s ∙ g;
-      within = omega arith
+      within = omega arith;
     }
 
 -- first the ones, then the others
@@ -36,7 +36,7 @@ writes-then {X} {old} {mid} {new} {a} {b} {n} {xs} {ys} v w =
       behind = w .behind ∙ later n (omega arith);
       count = (let e = length-append xs ys in omega arith);
       long = w .long ∙ g;
-      within = omega arith
+      within = omega arith;
     }
   where
     later : (k : ℕ) → b ≤ k → drop k mid ≡ drop k old

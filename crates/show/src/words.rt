@@ -3,7 +3,9 @@ use gateway::Fault;
 use gateway::Message;
 use std::fmt;
 use std::fmt::Write;
+use units::Delay;
 use units::Firm;
+use units::FirmCount;
 use units::Layer;
 use units::MessageSide;
 use units::Price;
@@ -33,47 +35,67 @@ fn reference(text: &mut String, bytes: &[u8]) -> fmt::Result {
     text.write_str("\"")
 }
 
+// A number after the words that lead to it.
+fn number(text: &mut String, words: &str, value: u32) -> fmt::Result {
+    write!(text, "{words}{value}")
+}
+
 // Who sends what kind, and on which side.
 fn sent(text: &mut String, kind: &str, firm: Firm, side: MessageSide) -> fmt::Result {
-    let number = firm.0;
+    let who = firm.0;
     let side = wants(side);
-    write!(text, "{kind} by firm {number} {side}")
+    write!(text, "{kind} by firm {who} {side}")
 }
 
-fn at(text: &mut String, price: Price) -> fmt::Result {
-    let units = price.0;
-    write!(text, " at {units}")
+// A quantity at a price.
+fn offered(text: &mut String, quantity: Quantity, price: Price) -> fmt::Result {
+    number(text, " ", quantity.0)?;
+    number(text, " at ", price.0)
 }
 
-fn of(text: &mut String, quantity: Quantity) -> fmt::Result {
-    let units = quantity.0;
-    write!(text, " {units}")
+// How long a request stays open.
+fn open_for(text: &mut String, delay: Delay) -> fmt::Result {
+    let seconds = delay.0;
+    write!(text, ", open for {seconds} s")
 }
 
-// The message, with all its fields.
-pub(super) fn message(text: &mut String, message: &Message) -> fmt::Result {
+// The least of a manual request is units.
+fn at_least_units(text: &mut String, least: Quantity) -> fmt::Result {
+    number(text, ", at least ", least.0)
+}
+
+// The least of an automatic request is firms.
+fn at_least_firms(text: &mut String, least: FirmCount) -> fmt::Result {
+    let firms = least.0;
+    write!(
+        text,
+        " on average or better, from at least {firms} firms answering"
+    )
+}
+
+// The message with its fields, but for the reference; answers the reference.
+fn fields<'a>(text: &mut String, message: &Message<'a>) -> Result<&'a [u8], fmt::Error> {
     match *message {
         Message::Order {
             firm,
             side,
             price,
             quantity,
-            reference: bytes,
+            reference,
             ..
         } => {
             sent(text, "book order", firm, side)?;
-            of(text, quantity)?;
-            at(text, price)?;
-            reference(text, bytes)
+            offered(text, quantity, price)?;
+            Ok(reference)
         }
         Message::Withdrawal {
             firm,
-            number,
-            reference: bytes,
+            number: what,
+            reference,
         } => {
-            let (firm, number) = (firm.0, number.0);
-            write!(text, "withdrawal by firm {firm} of number {number}")?;
-            reference(text, bytes)
+            number(text, "withdrawal by firm ", u32::from(firm.0))?;
+            number(text, " of number ", what.0)?;
+            Ok(reference)
         }
         Message::ManualRequest {
             firm,
@@ -81,13 +103,13 @@ pub(super) fn message(text: &mut String, message: &Message) -> fmt::Result {
             quantity,
             min_units,
             delay,
-            reference: bytes,
+            reference,
         } => {
             sent(text, "manual request", firm, side)?;
-            of(text, quantity)?;
-            let (least, seconds) = (min_units.0, delay.0);
-            write!(text, ", at least {least}, open for {seconds} s")?;
-            reference(text, bytes)
+            number(text, " ", quantity.0)?;
+            at_least_units(text, min_units)?;
+            open_for(text, delay)?;
+            Ok(reference)
         }
         Message::AutoRequest {
             firm,
@@ -96,17 +118,13 @@ pub(super) fn message(text: &mut String, message: &Message) -> fmt::Result {
             quantity,
             min_firms,
             delay,
-            reference: bytes,
+            reference,
         } => {
             sent(text, "automatic request", firm, side)?;
-            of(text, quantity)?;
-            at(text, limit)?;
-            let (least, seconds) = (min_firms.0, delay.0);
-            write!(
-                text,
-                " on average or better, from at least {least} firms answering, open for {seconds} s"
-            )?;
-            reference(text, bytes)
+            offered(text, quantity, limit)?;
+            at_least_firms(text, min_firms)?;
+            open_for(text, delay)?;
+            Ok(reference)
         }
         Message::Answer {
             firm,
@@ -114,37 +132,37 @@ pub(super) fn message(text: &mut String, message: &Message) -> fmt::Result {
             request,
             price,
             quantity,
-            reference: bytes,
+            reference,
         } => {
             sent(text, "answer", firm, side)?;
-            of(text, quantity)?;
-            at(text, price)?;
-            let number = request.0;
-            write!(text, " to request {number}")?;
-            reference(text, bytes)
+            offered(text, quantity, price)?;
+            number(text, " to request ", request.0)?;
+            Ok(reference)
         }
         Message::Confirmation {
             firm,
             side,
             request,
             price,
-            reference: bytes,
+            reference,
         } => {
             sent(text, "confirmation", firm, side)?;
-            at(text, price)?;
-            let number = request.0;
-            write!(text, " on average or better under request {number}")?;
-            reference(text, bytes)
+            number(text, " at ", price.0)?;
+            number(text, " on average or better under request ", request.0)?;
+            Ok(reference)
         }
-        Message::Clock {
-            time,
-            reference: bytes,
-        } => {
-            let milliseconds = time.0;
-            write!(text, "clock step to {milliseconds} ms")?;
-            reference(text, bytes)
+        Message::Clock { time, reference } => {
+            number(text, "clock step to ", time.0)?;
+            text.write_str(" ms")?;
+            Ok(reference)
         }
     }
+}
+
+// The message, with all its fields.
+pub(super) fn message(text: &mut String, message: &Message) -> fmt::Result {
+    let bytes = fields(text, message)?;
+    reference(text, bytes)
 }
 
 fn by(layer: Layer) -> &'static str {

@@ -27,42 +27,40 @@ pub use ranges::MOST_TIME;
 pub use refusal::Layer;
 pub use refusal::Refusal;
 pub use side::MessageSide;
-pub use side::MessageSidePartialEq;
 pub use side::Side;
-pub use side::SidePartialEq;
 
 // Price units for one unit of quantity.
-#[derive(Clone, Copy, PartialEq)]
+#[derive(Clone, Copy)]
 pub struct Price(pub u32);
 
 // How many units are offered, asked for, left or traded.
-#[derive(Clone, Copy, PartialEq)]
+#[derive(Clone, Copy)]
 pub struct Quantity(pub u32);
 
 // The step of quantities: each is a multiple of the lot.
-#[derive(Clone, Copy, PartialEq)]
+#[derive(Clone, Copy)]
 pub struct Lot(pub u32);
 
 // A member; 0 is the house, which sends no message.
-#[derive(Clone, Copy, PartialEq)]
+#[derive(Clone, Copy)]
 pub struct Firm(pub u8);
 
 // Names one order, answer or request; 0 names nothing.
-#[derive(Clone, Copy, PartialEq)]
+#[derive(Clone, Copy)]
 pub struct Number(pub u32);
 
 // Milliseconds since the start of the day.
-#[derive(Clone, Copy, PartialEq)]
+#[derive(Clone, Copy)]
 pub struct Time(pub u32);
 
 // Seconds from a request's arrival to its deadline.
-#[derive(Clone, Copy, PartialEq)]
+#[derive(Clone, Copy)]
 pub struct Delay(pub u32);
 
 // How many different firms.
-#[derive(Clone, Copy, PartialEq)]
+#[derive(Clone, Copy)]
 pub struct FirmCount(pub u32);
 
 // Price times quantity, summed.
-#[derive(Clone, Copy, PartialEq)]
+#[derive(Clone, Copy)]
 pub struct Money(pub u64);

@@ -2,7 +2,7 @@
 ghost use mathlib.Core.Path.{_≡_};
 ghost use Rattle.units.specs.Sides.{other, named, named-as};
 
-#[derive(Clone, Copy, PartialEq)]
+#[derive(Clone, Copy)]
 pub enum Side {
     Buy,
     Sell,
@@ -31,7 +31,7 @@ impl Side {
 }
 
 // The side of a message or of a status: a message may leave it open.
-#[derive(Clone, Copy, PartialEq)]
+#[derive(Clone, Copy)]
 pub enum MessageSide {
     None,
     Buy,

@@ -1,7 +1,5 @@
-use mathlib.Core.Path.{_≡_, sym, subst}
 use lib.ListN.{take}
 use Rattle.std.proofs.shelf.Sorted.{all-shuffled}
-use Rattle.ranked.specs.Lists.{Apart}
 use Rattle.ranked.proofs.Sorting.{apart-shuffled}
 use Rattle.draw.specs.Offers.{named}
 use Rattle.draw.proofs.Decided.{shows}

@@ -1,4 +1,4 @@
-use mathlib.Core.Path.{_≡_, sym, _∙_}
+use mathlib.Core.Path.{sym, _∙_}
 use mathlib.Core.Bool.{true, false}
 use Rattle.draw.proofs.Counting.{among-more, among-end}
 use Rattle.draw.proofs.firms.has_firm.Needs as need

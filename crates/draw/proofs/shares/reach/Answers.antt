@@ -1,5 +1,5 @@
 use native.Mathlib.Omega.{arith}
-use mathlib.Core.Path.{_≡_, sym, _∙_}
+use mathlib.Core.Path.{sym, _∙_}
 use Rattle.draw.proofs.Steps.{nothing, poured-here, poured-more, poured-end}
 use Rattle.draw.proofs.shares.reach.Needs as need
 

@@ -1,7 +1,7 @@
-use Prim.Native.Nat.{ℕ, _+_, _-_, _*_, _≤_, _<_, min}
+use Prim.Native.Nat.{ℕ, _-_}
 use native.Mathlib.Omega.{arith}
-use mathlib.Core.Path.{_≡_, sym, ap, ap₂, _∙_}
-use lib.ListN.{getD, drop}
+use mathlib.Core.Path.{sym, ap₂, _∙_}
+use lib.ListN.{getD}
 use Rattle.std.proofs.shelf.Elements.{all-getD}
 use Rattle.ranked.proofs.Sorting.{distinct-from-apart}
 use Rattle.draw.specs.Offers.{named}

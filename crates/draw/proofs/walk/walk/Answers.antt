@@ -1,6 +1,6 @@
-use Prim.Native.Nat.{ℕ, _+_, _*_, _≤_, _<_}
+use Prim.Native.Nat.{_*_}
 use native.Mathlib.Omega.{arith}
-use mathlib.Core.Path.{_≡_, sym, ap, _∙_}
+use mathlib.Core.Path.{sym, ap, _∙_}
 use lib.ListN.{getD}
 use Rattle.draw.proofs.Bounds.{price-at, quantity-bounds, lot-bounds}
 use Rattle.draw.proofs.Sides.{test-true}

@@ -1,8 +1,0 @@
-use Rattle.book.proofs.Standing.{lowered}
-use mathlib.Core.Path.{refl}
-use Rattle.book.proofs.rail.Rail.lower.Needs as need
-
-pub returns : need.returns
-returns c =
-    let r = c .args .self .now in
-    lowered (r .side) (r .first .0) (r .step .0) (r .left) (c .args .k) _ refl (c .args .left) (c .pre .less)

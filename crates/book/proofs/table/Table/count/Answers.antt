@@ -1,6 +1,0 @@
-use mathlib.Core.Path.{sym}
-use Rattle.book.proofs.Stored.{room, stored-count}
-use Rattle.book.proofs.table.Table.count.Needs as need
-
-pub returns : need.returns
-returns c = let t = c .args .self .now in sym (stored-count (t .offers) (t .count) (room t))

@@ -1,0 +1,3 @@
+pub mod Rungs
+pub mod Rails
+pub mod Ladders
