@@ -1,0 +1,14 @@
+pub mod Left
+pub mod Pours
+pub mod Fine
+pub mod Fairs
+pub mod Turns
+pub mod Keeps
+pub mod Arrivals
+pub mod Lawful
+pub mod Marks
+pub mod Only
+pub mod Bad
+pub mod Books
+pub mod Rooms
+pub mod Sounds
