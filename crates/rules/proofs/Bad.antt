@@ -1,7 +1,7 @@
 -- Histories of wrong engines are not lawful: what the step replies and reports is, and the law leaves no choice.
 use mathlib.Core.Path.{_≡_, refl, sym, ap, _∙_}
-use mathlib.Core.List.{List, [], _∷_}
-use Prim.Native.Nat.{ℕ, _+_}
+use mathlib.Core.List.{List, []}
+use Prim.Native.Nat.{ℕ}
 use native.Mathlib.Omega.{arith}
 use lib.ListN.{length, take}
 use Rattle.std.specs.declared.result.Result.the-variants.{Ok, Err}
@@ -13,7 +13,7 @@ use Rattle.rules.specs.State.{State, greatest}
 use Rattle.rules.specs.Reports.{filled, killed, size-of, money-of, remain}
 use Rattle.rules.specs.Calls.{Reply}
 use Rattle.rules.specs.Step.{step, one-by-one}
-use Rattle.rules.specs.History.{History, ledger, time, came-as}
+use Rattle.rules.specs.History.{ledger, time}
 use Rattle.rules.specs.Law.{Lawful}
 use Rattle.rules.specs.Examples.{sent, played, history}
 use Rattle.rules.specs.Run.{run, recorded}

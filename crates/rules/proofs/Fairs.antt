@@ -1,52 +1,44 @@
 -- The fills of a request are what the rules name.
-use mathlib.Core.Path.{_≡_, refl, sym, ap, ap₂, subst, _∙_}
+use mathlib.Core.Path.{_≡_, refl, sym, ap, subst, _∙_}
 use mathlib.Core.List.{List, [], _∷_, _++_, map}
 use mathlib.Core.Bool.{Bool, true, false, cond}
 use Prim.Native.Nat.{ℕ, _+_, _%_, _≤_, _<_}
 use native.Mathlib.Nat.{zero-mod}
 use native.Mathlib.Omega.{arith}
 use lib.Dec.{eqb, leb}
-use Rattle.std.specs.shelf.Lists.{All, kept-by, sumBy}
+use Rattle.std.specs.shelf.Lists.{All, kept-by}
 use Rattle.std.specs.declared.option.Option.{Option}
 use Rattle.std.specs.declared.option.Option.the-variants.{Some, None}
 use Rattle.std.proofs.shelf.Sums.{sumBy-cons}
 use Rattle.std.proofs.shelf.Elements.{all-weaker, all-append, all-kept-by, all-map}
 use Rattle.std.proofs.shelf.Sorted.{all-shuffled}
-use Rattle.std.proofs.shelf.Tests.{cases-eq, cond-true, cond-false, leb-true, leb-false}
+use Rattle.std.proofs.shelf.Tests.{leb-true, leb-false}
 use Rattle.units.specs.declared.Quantity.{Quantity}
 use Rattle.units.specs.declared.Money.{Money}
 use Rattle.units.specs.declared.side.Side.{Side}
 use Rattle.units.specs.declared.side.Side.the-variants.{Buy, Sell}
-use Rattle.ranked.specs.Lists.{ranked}
 use Rattle.ranked.proofs.Placing.{ranked-shuffled}
 use Rattle.ranked.proofs.Sorting.{Distinct}
-use Rattle.book.specs.declared.Offer.{Offer}
 use Rattle.draw.specs.declared.offers.Eligible.{Eligible}
 use Rattle.draw.specs.declared.offers.Offered.{Offered}
-use Rattle.draw.specs.declared.offers.Taker.{Taker}
-use Rattle.draw.specs.declared.fills.Fill.{Fill}
-use Rattle.draw.specs.Offers.{eligible, is-eligible, as-eligible, named}
-use Rattle.draw.specs.Rankings.{better-price, request-before}
+use Rattle.draw.specs.Offers.{is-eligible, as-eligible, named}
+use Rattle.draw.specs.Rankings.{request-before}
 use Rattle.draw.specs.Draws.{Draw, size, Good, GoodAutomatic, Trades, BestTerms, Decides, poured}
 use Rattle.draw.specs.Fills.{fills, taken, traded}
-use Rattle.draw.specs.Walk.{decided}
-use Rattle.draw.specs.Decisions as decisions
 use Rattle.draw.proofs.Sides.{whole-add}
 use Rattle.draw.proofs.Orders.{request-order, request-better}
 use Rattle.draw.proofs.Finds as finds
 use Rattle.draw.proofs.Pouring.{taken-is, fills-none}
-use Rattle.rules.specs.declared.records.Answer.{Answer}
 use Rattle.rules.specs.declared.records.Request.{Request}
-use Rattle.rules.specs.declared.reports.Report.{Report}
-use Rattle.rules.specs.State.{Kept, an-offer, an-answer, a-request, State}
-use Rattle.rules.specs.Reports.{pour, size-of, filled-by}
+use Rattle.rules.specs.State.{Kept, an-offer, an-answer, State}
+use Rattle.rules.specs.Reports.{pour, filled-by}
 use Rattle.rules.specs.Offers.{offered, taker-of, from-book, from-answer, request-ranking, firms}
 use Rattle.rules.specs.Step.{on-offer, ranked-for, trade, decision-at, decision-in-turn}
 use Rattle.rules.specs.History.{came-as}
 use Rattle.rules.specs.Law.{TradesFairly}
 use Rattle.rules.proofs.Left.{touched, count, count-append, came-append}
 use Rattle.rules.proofs.Pours.{an-eligible, came-kept, count-kept, count-sum, came-map, count-map, came-shuffled, taken-below, touched-fills, fills-units, fills-whole-lots, Whole, units}
-use Rattle.rules.proofs.Fine.{Sound, Fine, Lots}
+use Rattle.rules.proofs.Fine.{Sound}
 
 -- ── from a decision to fair fills ──
 

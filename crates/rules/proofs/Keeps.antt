@@ -1,12 +1,12 @@
 -- Each message's reports take no more than is there, and each message leaves a state in order.
-use mathlib.Core.Path.{_≡_, refl, sym, ap, ap₂, subst, _∙_}
-use mathlib.Core.List.{List, [], _∷_, _++_, map}
+use mathlib.Core.Path.{_≡_, refl, sym, subst, _∙_}
+use mathlib.Core.List.{List, [], _∷_, _++_}
 use mathlib.Core.Bool.{Bool, true, false, cond}
 use mathlib.Core.Logic.{_⊎_, inl, inr}
-use Prim.Native.Nat.{ℕ, _+_, _-_, _%_, _≤_, _<_}
+use Prim.Native.Nat.{ℕ, _+_, _%_, _≤_, _<_}
 use native.Mathlib.Omega.{arith}
 use lib.Dec.{eqb}
-use Rattle.std.specs.shelf.Lists.{All, kept-by}
+use Rattle.std.specs.shelf.Lists.{kept-by}
 use Rattle.std.specs.declared.option.Option.{Option}
 use Rattle.std.specs.declared.option.Option.the-variants.{Some, None}
 use Rattle.std.proofs.shelf.Elements.{all-weaker, all-append, all-kept-by, all-map}
@@ -32,13 +32,12 @@ use Rattle.rules.specs.declared.reports.KillReason.the-variants as reasons
 use Rattle.rules.specs.declared.reports.Report.{Report}
 use Rattle.rules.specs.State.{State, an-offer, an-answer, a-request}
 use Rattle.rules.specs.Reports.{remain, pour, kills, filled, killed}
-use Rattle.rules.specs.Offers.{to-request, under, first, none, in-turn, is-automatic, expiring, crossing, trading-ranking, from-book, met}
-use Rattle.rules.specs.Calls.{Call, new-offer, taken-back, withdrawn}
+use Rattle.rules.specs.Offers.{under, first, none, in-turn, is-automatic, expiring, crossing, trading-ranking, from-book, met}
+use Rattle.rules.specs.Calls.{Call, new-offer, taken-back}
 use Rattle.rules.specs.Calls.Call.{order, withdrawal, manual, automatic, answer, confirmation, clock}
 use Rattle.rules.specs.Step.{less, ends, ranked-for, trade, decision-at, decision-in-turn, with-end, with-end-if, turn, turn-by, turn-of, confirmed, confirmed-by, matched, one-by-one, expiry, expiries, turns-after, reported, received}
 use Rattle.rules.specs.History.{came-as}
-use Rattle.rules.specs.Law.{open-now}
-use Rattle.rules.proofs.Left.{touched, touched-append, count, count-append, came-append, came-none, count-remain, came-remain}
+use Rattle.rules.proofs.Left.{touched, touched-append, count, came-append, came-none, count-remain, came-remain}
 use Rattle.rules.proofs.Pours.{an-eligible, came-kept, count-kept, came-map, came-shuffled, count-shuffled, touched-kills, whole-kills, touched-fills, taken-below, fills-units, fills-whole-lots, units, Whole}
 use Rattle.rules.proofs.Fine.{Sound, Fine, Lots, fine-none, fine-append, one-by-one-fine, ends-fine, ends-touch, less-sound, request-laws, answer-laws}
 use Rattle.rules.proofs.Fairs.{units-of, trade-is, fits-at, fits-in-turn, traded-touch, traded-whole}

@@ -1,7 +1,7 @@
 -- The law leaves no choice.
 use mathlib.Core.Path.{_≡_, refl, sym, ap, ap₂, subst, _∙_}
 use mathlib.Core.List.{List, [], _∷_, _++_, map}
-use Prim.Native.Nat.{ℕ, _≤_}
+use Prim.Native.Nat.{ℕ}
 use native.Mathlib.Omega.{arith}
 use lib.ListN.{length}
 use Rattle.std.specs.declared.option.Option.{Option}
@@ -18,14 +18,14 @@ use Rattle.rules.specs.declared.records.Terms.{Terms}
 use Rattle.rules.specs.declared.records.Terms.the-variants.{Manual, Automatic}
 use Rattle.rules.specs.declared.reports.Report.{Report}
 use Rattle.rules.specs.declared.reports.Accepted.{Accepted}
-use Rattle.rules.specs.State.{State, Opening, a-request}
+use Rattle.rules.specs.State.{Opening, a-request}
 use Rattle.rules.specs.Reports.{filled-by, size-of, money-of}
 use Rattle.rules.specs.Offers.{request-ranking, under, first}
 use Rattle.rules.specs.Calls.{Call, Sent, Reply}
 use Rattle.rules.specs.Calls.Call.{order, withdrawal, manual, automatic, answer, confirmation, clock}
 use Rattle.rules.specs.Checks.{refusal}
 use Rattle.rules.specs.History.{Ledger, Event, ledger, time, with-call, with-reports, open-requests, stands}
-use Rattle.rules.specs.Law.{TradesFairly, TurnBy, Turn, Turns, ConfirmedBy, Confirmed, Answered, ClockStep, Ordered, Accepts, Accepting, Replies, Each, ended, ended-if, expired-at}
+use Rattle.rules.specs.Law.{TradesFairly, TurnBy, Turns, ConfirmedBy, Confirmed, Answered, ClockStep, Ordered, Accepts, Replies, Each, ended, ended-if, expired-at}
 use Rattle.rules.specs.Bite.{NoChoice, OneHistory}
 
 some : {X : Type 0} (x : X) (xs : List X) → x ∷ xs ≡ [] → ⊥

@@ -1,8 +1,8 @@
 -- How many reports a message has.
-use mathlib.Core.Path.{_≡_, refl, sym, ap, ap₂, subst, _∙_}
+use mathlib.Core.Path.{_≡_, refl, sym, ap, subst, _∙_}
 use mathlib.Core.List.{List, [], _∷_, _++_, map}
-use mathlib.Core.Bool.{Bool, true, false, cond, _&&_, not}
-use Prim.Native.Nat.{ℕ, _+_, _-_, _*_, _%_, _≤_, _<_}
+use mathlib.Core.Bool.{Bool, true, false, cond, _&&_}
+use Prim.Native.Nat.{ℕ, _+_, _*_, _%_, _≤_}
 use native.Mathlib.Omega.{arith}
 use lib.Dec.{eqb, ltb, leb}
 use lib.ListN.{length}
@@ -38,19 +38,19 @@ use Rattle.rules.specs.declared.reports.Report.{Report}
 use Rattle.rules.specs.State.{Kept, State, Opening, opened, an-offer, an-answer, a-request}
 use Rattle.rules.specs.Reports.{remain, rest, pour, kills, kill, filled-by}
 use Rattle.rules.specs.Offers.{to-request, under, by-number, first, none, in-turn, is-automatic, expiring, offered, taker-of, from-book, from-answer, met, crossing, trading-ranking}
-use Rattle.rules.specs.Calls.{Call, Sent, brings, taken-back, withdrawn}
+use Rattle.rules.specs.Calls.{Call, Sent, brings, taken-back}
 use Rattle.rules.specs.Calls.Call.{order, withdrawal, manual, automatic, answer, confirmation, clock}
-use Rattle.rules.specs.Checks.{Check, checks, all-checks, refusal, full-side, full-requests, full-answers}
+use Rattle.rules.specs.Checks.{Check, checks, all-checks, refusal, full-side}
 use Rattle.rules.specs.Step.{Out, step, answered, less, ends, on-offer, ranked-for, trade, decision-at, decision-in-turn, with-end, with-end-if, turn, turn-by, turn-of, confirmed, confirmed-by, matched, one-by-one, expiry, expiries, turns-after, reported, received}
-use Rattle.rules.specs.History.{History, Event}
-use Rattle.rules.specs.Run.{Opens, Leads, Reached}
+use Rattle.rules.specs.History.{Event}
+use Rattle.rules.specs.Run.{Opens, Leads}
 use Rattle.rules.specs.Run.Leads.{opens, goes}
 use Rattle.rules.specs.Room.{RoomForReports}
 use Rattle.rules.proofs.Left.{count}
 use Rattle.rules.proofs.Pours.{turned, count-kept, count-shuffled, length-fills}
-use Rattle.rules.proofs.Fine.{Sound, Fine, less-sound, ends-fine}
+use Rattle.rules.proofs.Fine.{Sound, less-sound, ends-fine}
 use Rattle.rules.proofs.Fairs.{units-of, trade-is, fits-at, fits-in-turn, traded-whole}
-use Rattle.rules.proofs.Keeps.{found-open, Open, Due, due-step, in-turn-due, expiries-fine}
+use Rattle.rules.proofs.Keeps.{found-open, Due, due-step, in-turn-due, expiries-fine}
 use Rattle.rules.proofs.Arrivals.{passed, passes, received-sound}
 use Rattle.rules.proofs.Lawful.{inv}
 

@@ -6,7 +6,7 @@ use Rattle.std.specs.shelf.Lists.{All}
 use Rattle.std.specs.declared.result.Result.the-variants.{Ok, Err}
 use Rattle.units.specs.declared.side.Side.the-variants.{Buy, Sell}
 use Rattle.units.specs.declared.refusal.Refusal.the-variants as refusals
-use Rattle.rules.specs.declared.reports.KillReason.the-variants.{RequestDone, AnswerDone, RequestWithdrawn, AnswerDropped, RequestExpired, Withdrawn}
+use Rattle.rules.specs.declared.reports.KillReason.the-variants.{RequestDone, AnswerDone, RequestWithdrawn, RequestExpired, Withdrawn}
 use Rattle.rules.specs.declared.reports.Report.{Report}
 use Rattle.rules.specs.State.{State, Opening}
 use Rattle.rules.specs.Reports.{filled-by, kill}

@@ -1,6 +1,5 @@
 -- What each message does to a market as values: the checks, the reports, and the state after them.
 use mathlib.Core.List.{List, [], _∷_, _++_, map}
-use mathlib.Core.Bool.{cond}
 use Prim.Native.Nat.{ℕ}
 use lib.ListN.{length}
 use Rattle.std.specs.declared.option.Option.{Option}
