@@ -137,7 +137,7 @@ Accepts lot l n (answer f d k p q) rs = Answered lot l (first (under a-request (
 Accepts lot l n (confirmation f d k p) rs = Confirmed lot l d (p .0) (first (under a-request (k .0) (open-requests l))) rs
 Accepts lot l n (clock t) rs = ClockStep lot l (t .0) rs
 
--- an acceptance after the events es: no check calls for a refusal; the number given is one above the greatest that came, or 0;
+-- an acceptance after the events es: no check calls for a refusal; the number given is one above the greatest that came, 0 where the message gets none;
 -- it counts its reports, and tells the size and the money of what they trade
 pub record Accepting (o : Opening) (es : List Event) (m : Sent) (a : Accepted) (rs : List Report) : Type 0 where
   pub passed : refusal (stands o es) m ≡ None
