@@ -1,7 +1,7 @@
 -- Histories of wrong engines are not lawful: what the step replies and reports is, and the law leaves no choice.
 use mathlib.Core.Path.{_≡_, refl, sym, ap, _∙_}
-use mathlib.Core.List.{List, [], _∷_}
-use Prim.Native.Nat.{ℕ, _+_}
+use mathlib.Core.List.{List, []}
+use Prim.Native.Nat.{ℕ}
 use native.Mathlib.Omega.{arith}
 use lib.ListN.{length, take}
 use Rattle.std.specs.declared.result.Result.the-variants.{Ok, Err}
@@ -9,15 +9,15 @@ use Rattle.units.specs.Refusals.{number-of}
 use Rattle.draw.specs.Walk.{walk}
 use Rattle.draw.specs.Fills.{fills}
 use Rattle.rules.specs.declared.reports.Report.{Report}
-use Rattle.rules.specs.State.{State, greatest}
+use Rattle.rules.specs.State.{State, Opening, greatest}
 use Rattle.rules.specs.Reports.{filled, killed, size-of, money-of, remain}
 use Rattle.rules.specs.Calls.{Reply}
 use Rattle.rules.specs.Step.{step, one-by-one}
-use Rattle.rules.specs.History.{History, ledger, time, came-as}
+use Rattle.rules.specs.History.{ledger, time, stands}
 use Rattle.rules.specs.Law.{Lawful}
-use Rattle.rules.specs.Examples.{sent, played, history}
+use Rattle.rules.specs.Examples.{seat, sent, played, history}
 use Rattle.rules.specs.Run.{run, recorded}
-use Rattle.rules.specs.Bite.{Bad, BadBreaks, KeptBookBreaks, TraceBreaks, ends-badly, unlooked, best-only, bookless, dear, by-rounding, overstated, answers-first, later-first, stolen, answers-as-firms, first-only, none-served, turned-round, late, early, turns-first, worse-price, later-offer, past-price, passive, number-twice, inert, orphans, refuses-all, accepts-all, other-reason, trace}
+use Rattle.rules.specs.Bite.{Bad, BadBreaks, Held, HeldBreaks, untaken, left-trace, undead, still, by-number, ends-badly, unlooked, best-only, bookless, dear, by-rounding, overstated, answers-first, later-first, stolen, answers-as-firms, first-only, none-served, turned-round, late, early, turns-first, worse-price, later-offer, past-price, passive, number-twice, inert, orphans, refuses-all, accepts-all, other-reason, trace}
 use Rattle.rules.proofs.Marks.{reached}
 use Rattle.rules.proofs.Lawful.{step-is-lawful}
 use Rattle.rules.proofs.Only.{no-choice}
@@ -86,30 +86,33 @@ bad-breaks = (
                             (
                               reports-differ (λ rs. killed rs 2) early 0 5000 refl refl (λ e. omega arith),
                               (
-                                reports-differ size-of turns-first 0 700 refl refl (λ e. omega arith),
+                                reports-differ (λ rs. killed (take 1 rs) 2) by-number 100 0 refl refl (λ e. omega arith),
                                 (
-                                  reports-differ money-of worse-price 99000 100000 refl refl (λ e. omega arith),
+                                  reports-differ size-of turns-first 0 700 refl refl (λ e. omega arith),
                                   (
-                                    reports-differ (λ rs. filled rs 2) later-offer 100 0 refl refl (λ e. omega arith),
+                                    reports-differ money-of worse-price 99000 100000 refl refl (λ e. omega arith),
                                     (
-                                      reports-differ size-of past-price 200 300 refl refl (λ e. omega arith),
+                                      reports-differ (λ rs. filled rs 2) later-offer 100 0 refl refl (λ e. omega arith),
                                       (
-                                        reports-differ size-of passive 100 0 refl refl (λ e. omega arith),
+                                        reports-differ size-of past-price 200 300 refl refl (λ e. omega arith),
                                         (
-                                          reply-differs number-in number-twice 5 4 refl refl (λ e. omega arith),
+                                          reports-differ size-of passive 100 0 refl refl (λ e. omega arith),
                                           (
-                                            reports-differ length inert 3 0 refl refl (λ e. omega arith),
+                                            reply-differs number-in number-twice 5 4 refl refl (λ e. omega arith),
                                             (
-                                              reports-differ length orphans 3 1 refl refl (λ e. omega arith),
+                                              reports-differ length inert 3 0 refl refl (λ e. omega arith),
                                               (
-                                                reply-differs refusal-in refuses-all 0 9 refl refl (λ e. omega arith),
+                                                reports-differ length orphans 3 1 refl refl (λ e. omega arith),
                                                 (
-                                                  reply-differs refusal-in accepts-all 9 0 refl refl (λ e. omega arith),
+                                                  reply-differs refusal-in refuses-all 0 9 refl refl (λ e. omega arith),
                                                   (
-                                                    reply-differs refusal-in other-reason 14 9 refl refl (λ e. omega arith),
+                                                    reply-differs refusal-in accepts-all 9 0 refl refl (λ e. omega arith),
                                                     (
-                                                      reports-differ length trace 0 1 refl refl (λ e. omega arith),
-                                                      tt,
+                                                      reply-differs refusal-in other-reason 14 9 refl refl (λ e. omega arith),
+                                                      (
+                                                        reports-differ length trace 0 1 refl refl (λ e. omega arith),
+                                                        tt,
+                                                      ),
                                                     ),
                                                   ),
                                                 ),
@@ -138,10 +141,22 @@ bad-breaks = (
   ),
 )
 
-pub kept-book-breaks : KeptBookBreaks
-unfolding run step one-by-one filled killed size-of money-of remain fills walk greatest recorded ledger time
-kept-book-breaks h = let z : _≡_ {A = ℕ} 1 0 = ap (λ (s : State). length (s .book .sells)) (h .holds) in omega arith
+-- by something that differs in what is held
+held-differs : (f : State → ℕ) (w : Held) (m n : ℕ) → f (w .state) ≡ m → f (stands seat (history (w .calls) .events)) ≡ n → (m ≡ n → ⊥) → history (w .calls) .opening ≡ seat → Lawful (history (w .calls)) (w .state) → ⊥
+held-differs f w m n e g ne o h = ne (sym e ∙ (ap f (h .holds) ∙ (ap (λ (z : Opening). f (stands z (history (w .calls) .events))) o ∙ g)))
 
-pub trace-breaks : TraceBreaks
+pub held-breaks : HeldBreaks
 unfolding run step one-by-one filled killed size-of money-of remain fills walk greatest recorded ledger time
-trace-breaks h = let z : _≡_ {A = ℕ} 2 1 = ap (λ (s : State). length (s .book .sells)) (h .holds) in omega arith
+held-breaks = (
+  held-differs (λ s. length (s .book .sells)) untaken 1 0 refl refl (λ e. omega arith) refl,
+  (
+    held-differs (λ s. length (s .book .sells)) left-trace 2 1 refl refl (λ e. omega arith) refl,
+    (
+      held-differs (λ s. length (s .answers)) undead 2 1 refl refl (λ e. omega arith) refl,
+      (
+        held-differs (λ s. s .time) still 0 5000 refl refl (λ e. omega arith) refl,
+        tt,
+      ),
+    ),
+  ),
+)

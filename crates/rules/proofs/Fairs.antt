@@ -1,52 +1,44 @@
 -- The fills of a request are what the rules name.
-use mathlib.Core.Path.{_≡_, refl, sym, ap, ap₂, subst, _∙_}
+use mathlib.Core.Path.{_≡_, refl, sym, ap, subst, _∙_}
 use mathlib.Core.List.{List, [], _∷_, _++_, map}
 use mathlib.Core.Bool.{Bool, true, false, cond}
 use Prim.Native.Nat.{ℕ, _+_, _%_, _≤_, _<_}
 use native.Mathlib.Nat.{zero-mod}
 use native.Mathlib.Omega.{arith}
 use lib.Dec.{eqb, leb}
-use Rattle.std.specs.shelf.Lists.{All, kept-by, sumBy}
+use Rattle.std.specs.shelf.Lists.{All, kept-by}
 use Rattle.std.specs.declared.option.Option.{Option}
 use Rattle.std.specs.declared.option.Option.the-variants.{Some, None}
 use Rattle.std.proofs.shelf.Sums.{sumBy-cons}
 use Rattle.std.proofs.shelf.Elements.{all-weaker, all-append, all-kept-by, all-map}
 use Rattle.std.proofs.shelf.Sorted.{all-shuffled}
-use Rattle.std.proofs.shelf.Tests.{cases-eq, cond-true, cond-false, leb-true, leb-false}
+use Rattle.std.proofs.shelf.Tests.{leb-true, leb-false}
 use Rattle.units.specs.declared.Quantity.{Quantity}
 use Rattle.units.specs.declared.Money.{Money}
 use Rattle.units.specs.declared.side.Side.{Side}
 use Rattle.units.specs.declared.side.Side.the-variants.{Buy, Sell}
-use Rattle.ranked.specs.Lists.{ranked}
 use Rattle.ranked.proofs.Placing.{ranked-shuffled}
 use Rattle.ranked.proofs.Sorting.{Distinct}
-use Rattle.book.specs.declared.Offer.{Offer}
 use Rattle.draw.specs.declared.offers.Eligible.{Eligible}
 use Rattle.draw.specs.declared.offers.Offered.{Offered}
-use Rattle.draw.specs.declared.offers.Taker.{Taker}
-use Rattle.draw.specs.declared.fills.Fill.{Fill}
-use Rattle.draw.specs.Offers.{eligible, is-eligible, as-eligible, named}
-use Rattle.draw.specs.Rankings.{better-price, request-before}
+use Rattle.draw.specs.Offers.{is-eligible, as-eligible, named}
+use Rattle.draw.specs.Rankings.{request-before}
 use Rattle.draw.specs.Draws.{Draw, size, Good, GoodAutomatic, Trades, BestTerms, Decides, poured}
-use Rattle.draw.specs.Fills.{fills, taken}
-use Rattle.draw.specs.Walk.{decided}
-use Rattle.draw.specs.Decisions as decisions
+use Rattle.draw.specs.Fills.{fills, taken, traded}
 use Rattle.draw.proofs.Sides.{whole-add}
 use Rattle.draw.proofs.Orders.{request-order, request-better}
 use Rattle.draw.proofs.Finds as finds
 use Rattle.draw.proofs.Pouring.{taken-is, fills-none}
-use Rattle.rules.specs.declared.records.Answer.{Answer}
 use Rattle.rules.specs.declared.records.Request.{Request}
-use Rattle.rules.specs.declared.reports.Report.{Report}
-use Rattle.rules.specs.State.{Kept, an-offer, an-answer, a-request, State}
-use Rattle.rules.specs.Reports.{pour, size-of, filled-by}
+use Rattle.rules.specs.State.{Kept, an-offer, an-answer, State}
+use Rattle.rules.specs.Reports.{pour, filled-by}
 use Rattle.rules.specs.Offers.{offered, taker-of, from-book, from-answer, request-ranking, firms}
-use Rattle.rules.specs.Step.{on-offer, ranked-for, units-of, traded, decision-at, decision-in-turn}
+use Rattle.rules.specs.Step.{on-offer, ranked-for, trade, decision-at, decision-in-turn}
 use Rattle.rules.specs.History.{came-as}
-use Rattle.rules.specs.Law.{Fair, Traded}
+use Rattle.rules.specs.Law.{TradesFairly}
 use Rattle.rules.proofs.Left.{touched, count, count-append, came-append}
 use Rattle.rules.proofs.Pours.{an-eligible, came-kept, count-kept, count-sum, came-map, count-map, came-shuffled, taken-below, touched-fills, fills-units, fills-whole-lots, Whole, units}
-use Rattle.rules.proofs.Fine.{Sound, Fine, Lots}
+use Rattle.rules.proofs.Fine.{Sound}
 
 -- ── from a decision to fair fills ──
 
@@ -54,11 +46,31 @@ nothing-taken : (os : List Eligible) → size os (taken []) ≡ 0
 nothing-taken [] = refl
 nothing-taken (o ∷ os) = let h = nothing-taken os in let c = sumBy-cons (λ (x : Eligible). taken [] (named x)) o os in omega arith
 
+-- the units that were decided on
+abbrev pub units-of : Option (Quantity × Money) → ℕ
+units-of None = 0
+units-of (Some t) = t .0 .0
+
+traded-units : (rs : List Eligible) (x : Option (Quantity × Money)) → traded rs x ≡ fills rs (units-of x)
+traded-units rs None = sym (fills-none rs)
+traded-units rs (Some t) = refl
+
 -- the fills of what was decided, where every good draw has something
-pub fair-decided : (d : Side) (os : List Eligible) (IsGood : Draw → Type 0) (r : Option (Quantity × Money)) → Distinct named (request-ranking d os) →
-    ((x : Draw) → IsGood x → 0 < size os x) → Decides d (request-before d) os IsGood r → Fair d os IsGood (fills (request-ranking d os) (units-of r))
-fair-decided d os IsGood None apart some h = subst (Fair d os IsGood) (sym (fills-none (request-ranking d os))) h
-fair-decided d os IsGood (Some r) apart some h = go (fills (request-ranking d os) (r .0 .0)) refl
+fair-decided : (d : Side) (os : List Eligible) (IsGood : Draw → Type 0) (x : Option (Quantity × Money)) → Distinct named (request-ranking d os) →
+    ((y : Draw) → IsGood y → 0 < size os y) → Decides d (request-before d) os IsGood x → TradesFairly d os IsGood (traded (request-ranking d os) x)
+fair-decided d os IsGood None apart some h = record {
+  fair = record { unfilled = λ _. h; only-so = λ _. refl; trades = λ z. absurd (z refl); terms = λ z. absurd (z refl) };
+  in-order = sym (ap (fills (request-ranking d os)) (nothing-taken os) ∙ fills-none (request-ranking d os));
+}
+fair-decided d os IsGood (Some r) apart some h = record {
+  fair = record {
+    unfilled = λ z. absurd (never z);
+    only-so = λ none. absurd (none (h .0) (h .1 .good));
+    trades = λ _. subst (Trades (request-before d) os IsGood) (sym tells) (h .1);
+    terms = λ _. subst (BestTerms d os IsGood) (sym tells) (h .3);
+  };
+  in-order = ap (fills (request-ranking d os)) (is ∙ ap (size os) (sym tells));
+}
   where
     is : r .0 .0 ≡ size os (h .0)
     is = ap (λ (t : Quantity × Money). t .0 .0) (h .2)
@@ -66,20 +78,13 @@ fair-decided d os IsGood (Some r) apart some h = go (fills (request-ranking d os
     tells : taken (fills (request-ranking d os) (r .0 .0)) ≡ h .0
     tells = taken-is (request-ranking d os) (r .0 .0) apart ∙ (ap (poured (request-ranking d os)) is ∙ sym (h .1 .emptied))
 
-    go : (fs : List Fill) → fills (request-ranking d os) (r .0 .0) ≡ fs → Fair d os IsGood fs
-    go [] e = absurd (
+    never : fills (request-ranking d os) (r .0 .0) ≡ [] → ⊥
+    never e =
         let a : taken [] ≡ h .0 = ap taken (sym e) ∙ tells in
         let z = nothing-taken os in
         let b = ap (size os) a in
         let p = some (h .0) (h .1 .good) in
-        omega arith)
-    go (f ∷ fs) e =
-        let a : taken (f ∷ fs) ≡ h .0 = ap taken (sym e) ∙ tells in
-        record {
-          trades = subst (Trades (request-before d) os IsGood) (sym a) (h .1);
-          terms = subst (BestTerms d os IsGood) (sym a) (h .3);
-          in-order = sym e ∙ ap (fills (request-ranking d os)) (is ∙ ap (size os) (sym a));
-        }
+        omega arith
 
 whole-size : (lot : ℕ) (os : List Eligible) (x : Draw) → All (λ o. (x (named o) ≤ o .left .0) × (x (named o) % lot ≡ 0)) os → size os x % lot ≡ 0
 whole-size lot [] x a = zero-mod lot
@@ -99,6 +104,9 @@ decided-fits d lot price least most os (Some r) h =
 
 an-offered : Kept Offered
 an-offered = record { number = λ o. o .number .0; left = λ o. o .left .0; with-left = λ o n. record { number = o .number; firm = o .firm; side = o .side; price = o .price; left = record { 0 = n }; source = o .source } }
+
+pub trade-is : (s : State) (r : Request) (d : Side) (x : Option (Quantity × Money)) → trade s r d x ≡ pour (r .number .0) (ranked-for s r d) (units-of x)
+trade-is s r d x = ap (map (filled-by (r .number .0))) (traded-units (ranked-for s r d) x)
 
 module _ (s : State) (r : Request) (d : Side) where
   abbrev on : List Eligible
@@ -153,7 +161,7 @@ module _ (s : State) (r : Request) (d : Side) where
       pub decides : Decides d (request-before d) on (Good d (s .book .lot) price least (r .left .0) on) (decision-at s r d price least)
       decides = finds.walk-decides d (request-before d) on priced (s .book .lot) price least (r .left .0) (record { some = g .lot; whole-most = w; whole = on-whole })
 
-      pub fair-at : Fair d on (Good d (s .book .lot) price least (r .left .0) on) (fills (ranked-for s r d) (units-of (decision-at s r d price least)))
+      pub fair-at : TradesFairly d on (Good d (s .book .lot) price least (r .left .0) on) (traded (ranked-for s r d) (decision-at s r d price least))
       fair-at = fair-decided d on _ (decision-at s r d price least) apart (λ x h. h .some) decides
 
     -- an automatic request: its quantity is its least and its most, and without enough firms no draw is good
@@ -172,7 +180,7 @@ module _ (s : State) (r : Request) (d : Side) where
               (decision-at s r d limit (r .left .0)) (decides w limit (r .left .0))
           go false e = λ x h. (let k = leb-false least _ e in let f = h .enough in omega arith)
 
-      pub fair-in-turn : Fair d on GoodHere (fills (ranked-for s r d) (units-of (decision-in-turn s r d limit least)))
+      pub fair-in-turn : TradesFairly d on GoodHere (traded (ranked-for s r d) (decision-in-turn s r d limit least))
       fair-in-turn = fair-decided d on GoodHere (decision-in-turn s r d limit least) apart (λ x h. (let q = h .exact in omega arith)) decides-in-turn
 
     -- what fits: at a confirmation and in a turn

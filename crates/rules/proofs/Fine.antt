@@ -1,31 +1,29 @@
 -- States in order, and reports that take no more than is there, in whole lots.
-use mathlib.Core.Path.{_≡_, refl, sym, ap, ap₂, subst, _∙_}
-use mathlib.Core.List.{List, [], _∷_, _++_, map}
-use mathlib.Core.Bool.{Bool, true, false, cond}
+use mathlib.Core.Path.{_≡_, refl}
+use mathlib.Core.List.{List, [], _∷_, _++_}
 use mathlib.Core.Logic.{_⊎_, inl, inr}
-use Prim.Native.Nat.{ℕ, _+_, _-_, _%_, _≤_, _<_}
+use Prim.Native.Nat.{ℕ, _+_, _%_, _≤_, _<_}
 use native.Mathlib.Omega.{arith}
-use lib.Dec.{eqb, ltb}
-use Rattle.std.specs.shelf.Lists.{All, kept-by}
-use Rattle.std.proofs.shelf.Elements.{all-weaker, all-append, all-kept-by}
+use lib.Dec.{eqb}
+use Rattle.std.specs.shelf.Lists.{All}
+use Rattle.std.proofs.shelf.Elements.{all-append, all-kept-by}
 use Rattle.std.proofs.shelf.Sorted.{all-shuffled}
-use Rattle.std.proofs.shelf.Tests.{cond-true, cond-false, eq-eqb, ne-eqb, eqb-true, cases-eq}
+use Rattle.std.proofs.shelf.Tests.{cases-eq}
 use Rattle.ranked.proofs.Placing.{ranked-shuffled}
 use Rattle.ranked.specs.Orders.{lower}
 use Rattle.draw.proofs.Sides.{whole-sub}
-use Rattle.book.specs.declared.Offer.{Offer}
 use Rattle.rules.specs.declared.records.Answer.{Answer}
 use Rattle.rules.specs.declared.records.Request.{Request}
 use Rattle.rules.specs.declared.reports.Report.{Report}
 use Rattle.rules.specs.declared.reports.KillReason.{KillReason}
 use Rattle.rules.specs.State.{Kept, an-offer, an-answer, a-request, State}
-use Rattle.rules.specs.Reports.{remain, filled, killed, kills}
+use Rattle.rules.specs.Reports.{filled, killed, kills}
 use Rattle.rules.specs.Offers.{to-request, under, by-number}
 use Rattle.rules.specs.Step.{less, ends, one-by-one}
 use Rattle.rules.specs.History.{came-as}
 use Rattle.rules.specs.Law.{open-now}
 use Rattle.rules.proofs.Left.{touched, touched-append, KeptLaws, count, came-none, count-remain, came-remain, whole-remain}
-use Rattle.rules.proofs.Pours.{Whole, came-kept, count-kept, came-shuffled, touched-kills, whole-kills, touched-whole}
+use Rattle.rules.proofs.Pours.{Whole, came-kept, came-shuffled, touched-kills, whole-kills, touched-whole}
 
 abbrev pub Lots : {X : Type 0} → Kept X → ℕ → List X → Type 0
 Lots k lot xs = All (λ x. (0 < k .left x) × (k .left x % lot ≡ 0)) xs

@@ -1,12 +1,12 @@
 -- Each message's reports take no more than is there, and each message leaves a state in order.
-use mathlib.Core.Path.{_≡_, refl, sym, ap, ap₂, subst, _∙_}
-use mathlib.Core.List.{List, [], _∷_, _++_, map}
+use mathlib.Core.Path.{_≡_, refl, sym, subst, _∙_}
+use mathlib.Core.List.{List, [], _∷_, _++_}
 use mathlib.Core.Bool.{Bool, true, false, cond}
 use mathlib.Core.Logic.{_⊎_, inl, inr}
-use Prim.Native.Nat.{ℕ, _+_, _-_, _%_, _≤_, _<_}
+use Prim.Native.Nat.{ℕ, _+_, _%_, _≤_, _<_}
 use native.Mathlib.Omega.{arith}
 use lib.Dec.{eqb}
-use Rattle.std.specs.shelf.Lists.{All, kept-by}
+use Rattle.std.specs.shelf.Lists.{kept-by}
 use Rattle.std.specs.declared.option.Option.{Option}
 use Rattle.std.specs.declared.option.Option.the-variants.{Some, None}
 use Rattle.std.proofs.shelf.Elements.{all-weaker, all-append, all-kept-by, all-map}
@@ -32,16 +32,15 @@ use Rattle.rules.specs.declared.reports.KillReason.the-variants as reasons
 use Rattle.rules.specs.declared.reports.Report.{Report}
 use Rattle.rules.specs.State.{State, an-offer, an-answer, a-request}
 use Rattle.rules.specs.Reports.{remain, pour, kills, filled, killed}
-use Rattle.rules.specs.Offers.{to-request, under, first, none, in-turn, is-automatic, expiring, crossing, trading-ranking, from-book, met}
-use Rattle.rules.specs.Calls.{Call, new-offer, taken-back, withdrawn}
+use Rattle.rules.specs.Offers.{under, first, none, in-turn, is-automatic, expiring, crossing, trading-ranking, from-book, met}
+use Rattle.rules.specs.Calls.{Call, new-offer, taken-back}
 use Rattle.rules.specs.Calls.Call.{order, withdrawal, manual, automatic, answer, confirmation, clock}
-use Rattle.rules.specs.Step.{less, ends, ranked-for, traded, units-of, decision-at, decision-in-turn, with-end, with-end-if, turn, turn-by, turn-of, confirmed, confirmed-by, matched, one-by-one, expiry, expiries, turns-after, reported, received}
+use Rattle.rules.specs.Step.{less, ends, ranked-for, trade, decision-at, decision-in-turn, with-end, with-end-if, turn, turn-by, turn-of, confirmed, confirmed-by, matched, one-by-one, expiry, expiries, turns-after, reported, received}
 use Rattle.rules.specs.History.{came-as}
-use Rattle.rules.specs.Law.{open-now}
-use Rattle.rules.proofs.Left.{touched, touched-append, count, count-append, came-append, came-none, count-remain, came-remain}
+use Rattle.rules.proofs.Left.{touched, touched-append, count, came-append, came-none, count-remain, came-remain}
 use Rattle.rules.proofs.Pours.{an-eligible, came-kept, count-kept, came-map, came-shuffled, count-shuffled, touched-kills, whole-kills, touched-fills, taken-below, fills-units, fills-whole-lots, units, Whole}
 use Rattle.rules.proofs.Fine.{Sound, Fine, Lots, fine-none, fine-append, one-by-one-fine, ends-fine, ends-touch, less-sound, request-laws, answer-laws}
-use Rattle.rules.proofs.Fairs.{fits-at, fits-in-turn, traded-touch, traded-whole}
+use Rattle.rules.proofs.Fairs.{units-of, trade-is, fits-at, fits-in-turn, traded-touch, traded-whole}
 
 -- ── requests of a state ──
 
@@ -106,11 +105,11 @@ module _ (s : State) (g : Sound s) (r : Request) (amount : r .left .0 ≤ came-a
           (let z = cond-true (eqb (r .number .0) (r .number .0)) n 0 (eq-eqb (r .number .0) (r .number .0) refl) in omega arith)
       pick k (inr ne) = let z = cond-false (eqb (r .number .0) k) n 0 (ne-eqb _ k ne) in omega arith
 
-  at-fine : (d : Side) (price least : ℕ) → Fine s (traded s r d (decision-at s r d price least))
-  at-fine d price least = let f = fits-at s r d g w price least in traded-fine d _ (f .0) (f .1)
+  at-fine : (d : Side) (price least : ℕ) → Fine s (trade s r d (decision-at s r d price least))
+  at-fine d price least = let f = fits-at s r d g w price least in subst (Fine s) (sym (trade-is s r d (decision-at s r d price least))) (traded-fine d _ (f .0) (f .1))
 
-  in-turn-fine : (d : Side) (limit least : ℕ) → Fine s (traded s r d (decision-in-turn s r d limit least))
-  in-turn-fine d limit least = let f = fits-in-turn s r d g w limit least in traded-fine d _ (f .0) (f .1)
+  in-turn-fine : (d : Side) (limit least : ℕ) → Fine s (trade s r d (decision-in-turn s r d limit least))
+  in-turn-fine d limit least = let f = fits-in-turn s r d g w limit least in subst (Fine s) (sym (trade-is s r d (decision-in-turn s r d limit least))) (traded-fine d _ (f .0) (f .1))
 
   end-fine : (n : ℕ) (fs : List Report) → Fine s fs → Fine s (with-end s n fs)
   end-fine n fs f = fine-append s fs _ g f (ends-fine (less fs s) n reasons.RequestDone reasons.AnswerDone (less-sound s fs g (f .whole)))
@@ -123,7 +122,7 @@ module _ (s : State) (g : Sound s) (r : Request) (amount : r .left .0 ≤ came-a
   confirmed-fine d p = go (r .terms)
     where
       go : (t : Terms) → Fine s (confirmed-by s d p r t)
-      go (Manual e m) = end-fine (r .number .0) (traded s r d (decision-at s r d p (m .0))) (at-fine d p (m .0))
+      go (Manual e m) = end-fine (r .number .0) (trade s r d (decision-at s r d p (m .0))) (at-fine d p (m .0))
       go (Automatic e l m) = fine-none s
 
   pub turn-fine : Fine s (turn s r)
@@ -131,7 +130,7 @@ module _ (s : State) (g : Sound s) (r : Request) (amount : r .left .0 ≤ came-a
     where
       go : (t : Terms) → Fine s (turn-by s r t)
       go (Manual e m) = fine-none s
-      go (Automatic d limit m) = end-if-fine (r .number .0) (traded s r d (decision-in-turn s r d (limit .0) (m .0))) (in-turn-fine d (limit .0) (m .0))
+      go (Automatic d limit m) = end-if-fine (r .number .0) (trade s r d (decision-in-turn s r d (limit .0) (m .0))) (in-turn-fine d (limit .0) (m .0))
 
   -- a turn takes nothing of another request
   module _ (k : ℕ) (ne : r .number .0 ≡ k → ⊥) (other-one : 0 < count a-request (s .requests) k) where
@@ -172,8 +171,9 @@ module _ (s : State) (g : Sound s) (r : Request) (amount : r .left .0 ≤ came-a
         go : (t : Terms) → touched (turn-by s r t) k ≡ 0
         go (Manual e m) = nothing
         go (Automatic d limit m) =
-            end-if-spares (traded s r d (decision-in-turn s r d (limit .0) (m .0)))
-            (traded-spares d (units-of (decision-in-turn s r d (limit .0) (m .0))) (fits-in-turn s r d g w (limit .0) (m .0) .1))
+            end-if-spares (trade s r d (decision-in-turn s r d (limit .0) (m .0)))
+            (subst (λ (xs : List Report). touched xs k ≡ 0) (sym (trade-is s r d (decision-in-turn s r d (limit .0) (m .0))))
+            (traded-spares d (units-of (decision-in-turn s r d (limit .0) (m .0))) (fits-in-turn s r d g w (limit .0) (m .0) .1)))
 
 -- ── requests that wait for their turn ──
 

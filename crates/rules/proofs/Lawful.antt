@@ -1,48 +1,45 @@
 -- The law of runs, about the step.
-use mathlib.Core.Path.{_≡_, refl, sym, ap, ap₂, subst, _∙_}
+use mathlib.Core.Path.{_≡_, refl, sym, ap, subst, _∙_}
 use mathlib.Core.List.{List, [], _∷_, _++_, append-nil, append-assoc, map}
-use mathlib.Core.Bool.{Bool, true, false, cond, _||_, _&&_, not}
-use Prim.Native.Nat.{ℕ, _+_, _%_, _≤_, _<_, max, min}
+use mathlib.Core.Bool.{Bool, true, false, cond, not}
+use Prim.Native.Nat.{ℕ, _+_, _≤_, _<_, max, min}
 use native.Mathlib.Omega.{arith}
 use lib.Dec.{eqb, leb}
-use Rattle.std.specs.shelf.Lists.{All, kept-by, sumBy}
+use Rattle.std.specs.shelf.Lists.{All}
 use Rattle.std.specs.declared.option.Option.{Option}
 use Rattle.std.specs.declared.option.Option.the-variants.{Some, None}
-use Rattle.std.specs.declared.result.Result.the-variants.{Ok, Err}
+use Rattle.std.specs.declared.result.Result.the-variants.{Err}
 use Rattle.std.proofs.shelf.Elements.{all-weaker, kept-by-passes}
 use Rattle.std.proofs.shelf.Sorted.{all-shuffled, sumBy-shuffled}
 use Rattle.std.proofs.shelf.Tests.{cond-false, ne-eqb, eqb-true, or-parts, and-parts, not-true, both-ways}
 use Rattle.units.specs.declared.side.Side.{Side}
 use Rattle.units.specs.declared.side.Side.the-variants.{Buy, Sell}
 use Rattle.units.specs.declared.refusal.Refusal.{Refusal}
-use Rattle.units.specs.Ranges.{is-lot, is-number, is-price, is-quantity}
-use Rattle.units.specs.Sides.{other}
+use Rattle.units.specs.Ranges.{is-number, is-price}
 use Rattle.ranked.proofs.Placing.{ranked-shuffled}
 use Rattle.book.specs.declared.Offer.{Offer}
-use Rattle.book.specs.Meaning.{has, in-range, side-of}
+use Rattle.book.specs.Meaning.{has, in-range}
 use Rattle.book.specs.Laws.{distinct, all-in-range}
 use Rattle.draw.specs.declared.offers.Eligible.{Eligible}
-use Rattle.draw.specs.declared.fills.Fill.{Fill}
 use Rattle.draw.specs.Sides.{NoWorse, no-worse}
 use Rattle.draw.specs.Rankings.{trading-before}
 use Rattle.draw.specs.Fills.{fills}
 use Rattle.draw.proofs.Sides.{test-true}
 use Rattle.draw.proofs.Bounds.{lot-bounds, quantity-bounds}
-use Rattle.rules.specs.declared.records.Answer.{Answer}
 use Rattle.rules.specs.declared.records.Request.{Request}
 use Rattle.rules.specs.declared.records.Terms.{Terms}
 use Rattle.rules.specs.declared.records.Terms.the-variants.{Manual, Automatic}
 use Rattle.rules.specs.declared.reports.Report.{Report}
 use Rattle.rules.specs.State.{Kept, State, Opening, opened, an-offer, an-answer, a-request, greatest}
-use Rattle.rules.specs.Reports.{remain, filled, killed, fills-by, filled-by, pour}
+use Rattle.rules.specs.Reports.{remain, filled, killed, fills-by, filled-by}
 use Rattle.rules.specs.Offers.{under, first, any, none, is-automatic, automatic-terms, expiring, in-turn, met, crossing, trading-ranking}
 use Rattle.rules.specs.Calls.{Call, Sent, Reply, News, brings, given, next-of, time-of}
 use Rattle.rules.specs.Calls.Call.{order, withdrawal, manual, automatic, answer, confirmation, clock}
 use Rattle.rules.specs.Checks.{refusal, is-none}
 use Rattle.rules.specs.Step.{Out, step, answered, acceptance, reported, received, less, matched, turn, turn-of, confirmed, confirmed-by, one-by-one, expiries, turns-after}
-use Rattle.rules.specs.History.{Event, History, Ledger, newly, after, messages, ledger, time, with-call, with-reports, open-requests, living, standing, next-number, came-as, quantity, stands, standing-market}
-use Rattle.rules.specs.Law.{Each, Replies, Accepting, Accepts, Ordered, PriceTime, Answered, Confirmed, ConfirmedBy, expired, expired-at, Account, Lawful}
-use Rattle.rules.specs.Run.{Opens, Leads, Reached, GoesOn, StepIsLawful, run, event-of, recorded, Recorded, RunsAreLawful}
+use Rattle.rules.specs.History.{Event, History, Ledger, newly, after, messages, ledger, time, with-call, with-reports, open-requests, standing, next-number, came-as, quantity, stands, standing-market}
+use Rattle.rules.specs.Law.{Each, Accepts, Ordered, PriceTime, Answered, Confirmed, ConfirmedBy, expired-at, Account, Lawful}
+use Rattle.rules.specs.Run.{Opens, Leads, Reached, GoesOn, StepIsLawful, run, event-of, recorded, RunsAreLawful}
 use Rattle.rules.specs.Run.Leads.{opens, goes}
 use Rattle.rules.proofs.Left.{touched, touched-append, filled-append, killed-append, count, count-append, came-none, came-append, remain-append, remain-same, KeptLaws}
 use Rattle.rules.proofs.Pours.{own-fills, fills-prices, fills-units}

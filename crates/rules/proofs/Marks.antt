@@ -1,5 +1,5 @@
 -- The worked examples: what is told by computation, what is decided by the theorem on draws.
-use mathlib.Core.Path.{_≡_, refl, sym, subst}
+use mathlib.Core.Path.{_≡_, refl, subst}
 use mathlib.Core.Bool.{true}
 use mathlib.Core.List.{List, [], _∷_, _++_, map}
 use Prim.Native.Nat.{ℕ, _≤_, _<_, _%_}
@@ -21,7 +21,7 @@ use Rattle.rules.specs.declared.records.Terms.the-variants.{Manual, Automatic}
 use Rattle.rules.specs.State.{State, a-request, greatest}
 use Rattle.rules.specs.Reports.{filled, killed, size-of, money-of, remain}
 use Rattle.rules.specs.Offers.{under, first}
-use Rattle.rules.specs.Calls.{Call, Sent}
+use Rattle.rules.specs.Calls.{Call}
 use Rattle.rules.specs.Calls.Call.{order, withdrawal, manual, automatic, answer, confirmation, clock}
 use Rattle.rules.specs.Checks.{all-checks}
 use Rattle.rules.specs.Step.{step, one-by-one, decision-at, decision-in-turn}

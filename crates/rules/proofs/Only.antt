@@ -1,7 +1,7 @@
 -- The law leaves no choice.
 use mathlib.Core.Path.{_≡_, refl, sym, ap, ap₂, subst, _∙_}
 use mathlib.Core.List.{List, [], _∷_, _++_, map}
-use Prim.Native.Nat.{ℕ, _≤_}
+use Prim.Native.Nat.{ℕ}
 use native.Mathlib.Omega.{arith}
 use lib.ListN.{length}
 use Rattle.std.specs.declared.option.Option.{Option}
@@ -18,23 +18,27 @@ use Rattle.rules.specs.declared.records.Terms.{Terms}
 use Rattle.rules.specs.declared.records.Terms.the-variants.{Manual, Automatic}
 use Rattle.rules.specs.declared.reports.Report.{Report}
 use Rattle.rules.specs.declared.reports.Accepted.{Accepted}
-use Rattle.rules.specs.State.{State, Opening, a-request}
+use Rattle.rules.specs.State.{Opening, a-request}
 use Rattle.rules.specs.Reports.{filled-by, size-of, money-of}
 use Rattle.rules.specs.Offers.{request-ranking, under, first}
 use Rattle.rules.specs.Calls.{Call, Sent, Reply}
 use Rattle.rules.specs.Calls.Call.{order, withdrawal, manual, automatic, answer, confirmation, clock}
 use Rattle.rules.specs.Checks.{refusal}
 use Rattle.rules.specs.History.{Ledger, Event, ledger, time, with-call, with-reports, open-requests, stands}
-use Rattle.rules.specs.Law.{Fair, TurnBy, Turn, Turns, ConfirmedBy, Confirmed, Answered, ClockStep, Ordered, Accepts, Accepting, Replies, Each, ended, ended-if, expired-at}
+use Rattle.rules.specs.Law.{TradesFairly, TurnBy, Turns, ConfirmedBy, Confirmed, Answered, ClockStep, Ordered, Accepts, Replies, Each, ended, ended-if, expired-at}
 use Rattle.rules.specs.Bite.{NoChoice, OneHistory}
 
-fair-only : (d : Side) (os : List Eligible) (G : Draw → Type 0) (fs gs : List Fill) → Fair d os G fs → Fair d os G gs → fs ≡ gs
-fair-only d os G [] [] h k = refl
-fair-only d os G [] (g ∷ gs) h k = absurd (h _ (k .trades .good))
-fair-only d os G (f ∷ fs) [] h k = absurd (k _ (h .trades .good))
+some : {X : Type 0} (x : X) (xs : List X) → x ∷ xs ≡ [] → ⊥
+some x xs e = let z : _≡_ {A = ℕ} 0 1 = cc in omega arith
+
+fair-only : (d : Side) (os : List Eligible) (G : Draw → Type 0) (fs gs : List Fill) → TradesFairly d os G fs → TradesFairly d os G gs → fs ≡ gs
+fair-only d os G [] gs h k = sym (k .fair .only-so (h .fair .unfilled refl))
+fair-only d os G (f ∷ fs) [] h k = h .fair .only-so (k .fair .unfilled refl)
 fair-only d os G (f ∷ fs) (g ∷ gs) h k =
-    let a = k .trades .greatest _ (h .trades .good) in
-    let b = h .trades .greatest _ (k .trades .good) in
+    let x = h .fair .trades (some f fs) in
+    let y = k .fair .trades (some g gs) in
+    let a = y .greatest _ (x .good) in
+    let b = x .greatest _ (y .good) in
     let e : size os (taken (f ∷ fs)) ≡ size os (taken (g ∷ gs)) = omega arith in
     h .in-order ∙ (ap (fills (request-ranking d os)) e ∙ sym (k .in-order))
 

@@ -2,7 +2,7 @@
 use mathlib.Core.Path.{_≡_, refl, sym, ap, ap₂, subst, _∙_}
 use mathlib.Core.List.{List, [], _∷_, _++_, map}
 use mathlib.Core.Bool.{Bool, true, false, cond}
-use mathlib.Core.Logic.{_⊎_, inl, inr}
+use mathlib.Core.Logic.{inl, inr}
 use Prim.Native.Nat.{ℕ, _+_, _-_, _%_, _≤_, _<_, min}
 use native.Mathlib.Nat.{zero-mod}
 use native.Mathlib.Omega.{arith}
@@ -13,10 +13,8 @@ use Rattle.std.specs.Slices.{Shuffled}
 use Rattle.std.proofs.shelf.Sums.{sumBy-cons}
 use Rattle.std.proofs.shelf.Sorted.{sumBy-shuffled}
 use Rattle.std.proofs.shelf.Tests.{cond-true, cond-false, eq-eqb, ne-eqb, eqb-true, cases-eq}
-use Rattle.units.specs.declared.side.Side.{Side}
 use Rattle.draw.specs.declared.offers.Eligible.{Eligible}
 use Rattle.draw.specs.declared.fills.Fill.{Fill}
-use Rattle.draw.specs.Sides.{NoWorse}
 use Rattle.draw.specs.Fills.{taken, fills}
 use Rattle.draw.proofs.Sides.{whole-add, whole-sub, whole-min}
 use Rattle.rules.specs.declared.reports.KillReason.{KillReason}

@@ -1,8 +1,8 @@
 -- How many reports a message has.
-use mathlib.Core.Path.{_≡_, refl, sym, ap, ap₂, subst, _∙_}
+use mathlib.Core.Path.{_≡_, refl, sym, ap, subst, _∙_}
 use mathlib.Core.List.{List, [], _∷_, _++_, map}
-use mathlib.Core.Bool.{Bool, true, false, cond, _&&_, not}
-use Prim.Native.Nat.{ℕ, _+_, _-_, _*_, _%_, _≤_, _<_}
+use mathlib.Core.Bool.{Bool, true, false, cond, _&&_}
+use Prim.Native.Nat.{ℕ, _+_, _*_, _%_, _≤_}
 use native.Mathlib.Omega.{arith}
 use lib.Dec.{eqb, ltb, leb}
 use lib.ListN.{length}
@@ -38,19 +38,19 @@ use Rattle.rules.specs.declared.reports.Report.{Report}
 use Rattle.rules.specs.State.{Kept, State, Opening, opened, an-offer, an-answer, a-request}
 use Rattle.rules.specs.Reports.{remain, rest, pour, kills, kill, filled-by}
 use Rattle.rules.specs.Offers.{to-request, under, by-number, first, none, in-turn, is-automatic, expiring, offered, taker-of, from-book, from-answer, met, crossing, trading-ranking}
-use Rattle.rules.specs.Calls.{Call, Sent, brings, taken-back, withdrawn}
+use Rattle.rules.specs.Calls.{Call, Sent, brings, taken-back}
 use Rattle.rules.specs.Calls.Call.{order, withdrawal, manual, automatic, answer, confirmation, clock}
-use Rattle.rules.specs.Checks.{Check, checks, all-checks, refusal, full-side, full-requests, full-answers}
-use Rattle.rules.specs.Step.{Out, step, answered, less, ends, on-offer, ranked-for, traded, units-of, decision-at, decision-in-turn, with-end, with-end-if, turn, turn-by, turn-of, confirmed, confirmed-by, matched, one-by-one, expiry, expiries, turns-after, reported, received}
-use Rattle.rules.specs.History.{History, Event}
-use Rattle.rules.specs.Run.{Opens, Leads, Reached}
+use Rattle.rules.specs.Checks.{Check, checks, all-checks, refusal, full-side}
+use Rattle.rules.specs.Step.{Out, step, answered, less, ends, on-offer, ranked-for, trade, decision-at, decision-in-turn, with-end, with-end-if, turn, turn-by, turn-of, confirmed, confirmed-by, matched, one-by-one, expiry, expiries, turns-after, reported, received}
+use Rattle.rules.specs.History.{Event}
+use Rattle.rules.specs.Run.{Opens, Leads}
 use Rattle.rules.specs.Run.Leads.{opens, goes}
 use Rattle.rules.specs.Room.{RoomForReports}
 use Rattle.rules.proofs.Left.{count}
 use Rattle.rules.proofs.Pours.{turned, count-kept, count-shuffled, length-fills}
-use Rattle.rules.proofs.Fine.{Sound, Fine, less-sound, ends-fine}
-use Rattle.rules.proofs.Fairs.{fits-at, fits-in-turn, traded-whole}
-use Rattle.rules.proofs.Keeps.{found-open, Open, Due, due-step, in-turn-due, expiries-fine}
+use Rattle.rules.proofs.Fine.{Sound, less-sound, ends-fine}
+use Rattle.rules.proofs.Fairs.{units-of, trade-is, fits-at, fits-in-turn, traded-whole}
+use Rattle.rules.proofs.Keeps.{found-open, Due, due-step, in-turn-due, expiries-fine}
 use Rattle.rules.proofs.Arrivals.{passed, passes, received-sound}
 use Rattle.rules.proofs.Lawful.{inv}
 
@@ -290,22 +290,29 @@ module _ (s : State) (f : Few s) (g : Sound s) (r : Request) where
   length-with-end-if (x ∷ fs) g′ h = length-with-end (x ∷ fs) g′ h
 
   module _ (w : r .left .0 % s .book .lot ≡ 0) where
+    -- fills of what was decided
+    length-trade : (d : Side) (x : Option (Quantity × Money)) → length (trade s r d x) ≤ 128 + its n (s .answers)
+    length-trade d x = subst (λ (xs : List Report). length xs ≤ 128 + its n (s .answers)) (sym (trade-is s r d x)) (length-poured s f r d (units-of x))
+
+    after-trade : (d : Side) (x : Option (Quantity × Money)) → units-of x % s .book .lot ≡ 0 → Sound (less (trade s r d x) s)
+    after-trade d x v = subst (λ (xs : List Report). Sound (less xs s)) (sym (trade-is s r d x)) (less-sound s (pour n (ranked-for s r d) (units-of x)) g (traded-whole s r d g (units-of x) v))
+
     length-turn : length (turn s r) ≤ 129 + 2 * its n (s .answers)
     length-turn = go (r .terms)
       where
         go : (t : Terms) → length (turn-by s r t) ≤ 129 + 2 * its n (s .answers)
         go (Manual e m) = omega arith
         go (Automatic d limit m) =
-            let v = fits-in-turn s r d g w (limit .0) (m .0) .1 in
-            length-with-end-if (traded s r d (decision-in-turn s r d (limit .0) (m .0))) (less-sound s _ g (traded-whole s r d g _ v)) (length-poured s f r d _)
+            let x = decision-in-turn s r d (limit .0) (m .0) in
+            length-with-end-if (trade s r d x) (after-trade d x (fits-in-turn s r d g w (limit .0) (m .0) .1)) (length-trade d x)
 
     length-confirmed : (d : Side) (p : ℕ) → length (confirmed-by s d p r (r .terms)) ≤ 129 + 2 * its n (s .answers)
     length-confirmed d p = go (r .terms)
       where
         go : (t : Terms) → length (confirmed-by s d p r t) ≤ 129 + 2 * its n (s .answers)
         go (Manual e m) =
-            let v = fits-at s r d g w p (m .0) .1 in
-            length-with-end (traded s r d (decision-at s r d p (m .0))) (less-sound s _ g (traded-whole s r d g _ v)) (length-poured s f r d _)
+            let x = decision-at s r d p (m .0) in
+            length-with-end (trade s r d x) (after-trade d x (fits-at s r d g w p (m .0) .1)) (length-trade d x)
         go (Automatic e l m) = omega arith
 
 length-turns : (rs : List Request) (s : State) → Few s → Sound s → Due rs s → length (one-by-one turn rs s) ≤ 129 * length rs + 2 * all-its rs (s .answers)

@@ -1,9 +1,8 @@
 -- Soundness is kept, and suffices.
-use mathlib.Core.Path.{_≡_, refl, sym, ap, ap₂, subst, _∙_}
+use mathlib.Core.Path.{_≡_, refl, subst}
 use mathlib.Core.List.{List, [], _∷_, _++_, map}
 use mathlib.Core.Bool.{Bool, true, false, cond, _&&_, _||_, not}
-use mathlib.Core.Logic.{_⊎_, inl, inr}
-use Prim.Native.Nat.{ℕ, _+_, _-_, _%_, _≤_, _<_}
+use Prim.Native.Nat.{ℕ, _+_, _%_, _≤_, _<_}
 use native.Mathlib.Omega.{arith}
 use lib.Dec.{eqb, leb, ltb}
 use lib.ListN.{length}
@@ -11,7 +10,7 @@ use Rattle.std.specs.shelf.Lists.{All, kept-by}
 use Rattle.std.specs.declared.option.Option.{Option}
 use Rattle.std.specs.declared.option.Option.the-variants.{Some, None}
 use Rattle.std.proofs.shelf.Elements.{all-append, all-map, all-kept-by, all-weaker}
-use Rattle.std.proofs.shelf.Tests.{and-parts, and-from, le-leb, eq-eqb, not-false, not-from-false, or-from, ltb-true, ne-eqb, cond-true, cases-bool}
+use Rattle.std.proofs.shelf.Tests.{and-parts, and-from, le-leb, eq-eqb, not-false, not-from-false, ltb-true, cond-true}
 use Rattle.units.specs.declared.side.Side.{Side}
 use Rattle.units.specs.declared.side.Side.the-variants.{Buy, Sell}
 use Rattle.units.specs.declared.refusal.Refusal.{Refusal}
@@ -19,11 +18,15 @@ use Rattle.units.specs.Ranges.{is-lot, is-number, is-member, is-price, is-quant
 use Rattle.book.specs.declared.Offer.{Offer}
 use Rattle.book.specs.Meaning.{has, in-range, side-of}
 use Rattle.book.specs.Laws as book
-use Rattle.ranked.specs.Lists.{Apart}
+use Rattle.std.proofs.shelf.Sorted.{all-shuffled}
+use Rattle.units.specs.Sides.{other}
+use Rattle.ranked.proofs.Placing.{ranked-shuffled}
+use Rattle.draw.specs.Sides.{no-worse}
+use Rattle.draw.specs.Rankings.{trading-before}
 use Rattle.draw.specs.declared.offers.Eligible.{Eligible}
 use Rattle.draw.specs.declared.offers.Offered.{Offered}
 use Rattle.draw.specs.Offers as draws
-use Rattle.draw.specs.Offers.{as-eligible, named}
+use Rattle.draw.specs.Offers.{as-eligible}
 use Rattle.draw.proofs.Bounds.{quantity-bounds, lot-bounds}
 use Rattle.draw.proofs.Sides.{whole-sub}
 use Rattle.rules.specs.declared.records.Answer.{Answer}
@@ -34,13 +37,13 @@ use Rattle.rules.specs.Reports.{remain, rest}
 use Rattle.rules.specs.Calls.{Call, Sent, News, nothing, brings}
 use Rattle.rules.specs.Calls.Call.{order, withdrawal, manual, automatic, answer, confirmation, clock}
 use Rattle.rules.specs.Checks.{Check, checks, all-checks, refusal}
-use Rattle.rules.specs.Offers.{under, first, offered, taker-of, from-book, from-answer, met}
+use Rattle.rules.specs.Offers.{under, first, offered, taker-of, from-book, from-answer, met, crossing, trading-ranking}
 use Rattle.rules.specs.Takes.{Listed}
 use Rattle.rules.specs.Step.{on-offer, step, answered, less, received, reported}
 use Rattle.rules.specs.Run.{Opens}
 use Rattle.rules.specs.Sound.{Sound, SoundIsKept, SoundSuffices, fits, limit-in-range, answer-in-range, request-in-range, all-times}
 use Rattle.rules.proofs.Left.{touched, count, count-append}
-use Rattle.rules.proofs.Pours.{Whole, an-eligible, touched-whole, count-sum, count-map}
+use Rattle.rules.proofs.Pours.{Whole, an-eligible, touched-whole, count-sum, count-map, count-kept, count-shuffled}
 use Rattle.rules.proofs.Fine as fine
 use Rattle.rules.proofs.Fairs.{priced}
 use Rattle.rules.proofs.Keeps.{reported-fine}
@@ -309,17 +312,23 @@ side-parts : (s : State) → Sound s → (d : Side) → ((n : ℕ) → count an-
 side-parts s g Buy = let p = in-parts s g .0 in ((λ n. (let a = p .apart n in omega arith)), p .buys)
 side-parts s g Sell = let p = in-parts s g .0 in ((λ n. (let a = p .apart n in omega arith)), p .sells)
 
-met-ready : (s : State) → Sound s → (d : Side) → Apart named (met d (side-of (s .book) d)) × All (λ (o : Eligible). 0 < o .left .0) (met d (side-of (s .book) d))
-met-ready s g d =
-    let os = side-of (s .book) d in
-    let p = side-parts s g d in (
-      (λ n. (
-          let a = count-sum an-eligible (met d os) n in
-          let b = count-map an-offer an-eligible (λ o. as-eligible (from-book d o)) (λ x. refl) (λ x. refl) os n in
-          let c = p .0 n in
-          omega arith)),
-      all-map _ (λ o. as-eligible (from-book d o)) os (all-weaker _ _ (λ x h. h .0) os (p .1)),
-    )
+-- and those that an order crosses
+pourable : (s : State) → Sound s → (d : Side) (p : ℕ) → draws.Pourable (trading-ranking d (crossing d p (met (other d) (side-of (s .book) (other d)))))
+pourable s g d p =
+    let theirs = side-of (s .book) (other d) in
+    let here = crossing d p (met (other d) theirs) in
+    let same = ranked-shuffled (trading-before d) here in
+    let h = side-parts s g (other d) in
+    record {
+      apart = λ n. (
+          let a = count-sum an-eligible (trading-ranking d here) n in
+          let b = count-shuffled an-eligible here (trading-ranking d here) same n in
+          let c = count-kept an-eligible (λ (o : Eligible). no-worse d (o .price .0) p) (met (other d) theirs) n in
+          let e = count-map an-offer an-eligible (λ o. as-eligible (from-book (other d) o)) (λ x. refl) (λ x. refl) theirs n in
+          let f = h .0 n in
+          omega arith);
+      some = all-shuffled _ here _ same (all-kept-by _ _ (met (other d) theirs) (all-map _ (λ o. as-eligible (from-book (other d) o)) theirs (all-weaker _ _ (λ x v. v .0) theirs (h .1))));
+    }
 
 none-counted : (n : ℕ) (os : List Offer) → count an-offer os n ≡ 0 → All (λ (x : Offer). x .number .0 ≡ n → ⊥) os
 unfolding count
@@ -338,7 +347,7 @@ listed lot (o ∷ os) c a = (
 pub sound-suffices : SoundSuffices
 sound-suffices = record {
   draws = ready;
-  orders = met-ready;
+  orders = pourable;
   takes = λ s g d. (let p = side-parts s g d in listed (s .book .lot) (side-of (s .book) d) (p .0) (p .1));
   room = λ s m g. (let p = in-parts s g in length-step s m (p .0) (p .1));
 }

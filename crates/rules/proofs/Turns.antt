@@ -1,22 +1,19 @@
 -- Turns and confirmations by the ledger: a state that a ledger tells does what the law says.
 use mathlib.Core.Path.{_≡_, refl, sym, ap, ap₂, subst, _∙_}
 use mathlib.Core.List.{List, [], _∷_, _++_, map, append-nil, append-assoc}
-use mathlib.Core.Bool.{cond}
-use Prim.Native.Nat.{ℕ, _+_, _%_, _≤_, _<_}
+use Prim.Native.Nat.{ℕ, _%_, _≤_, _<_}
 use native.Mathlib.Omega.{arith}
 use lib.Dec.{eqb}
 use Rattle.std.specs.shelf.Lists.{All}
 use Rattle.std.specs.declared.option.Option.{Option}
-use Rattle.std.specs.declared.option.Option.the-variants.{Some, None}
 use Rattle.std.proofs.shelf.Tests.{cond-true, eq-eqb}
 use Rattle.units.specs.declared.Quantity.{Quantity}
-use Rattle.units.specs.declared.Money.{Money}
 use Rattle.units.specs.declared.side.Side.{Side}
 use Rattle.units.specs.declared.side.Side.the-variants.{Buy, Sell}
 use Rattle.book.specs.declared.Offer.{Offer}
 use Rattle.draw.specs.declared.fills.Fill.{Fill}
 use Rattle.draw.specs.Draws.{Good, GoodAutomatic}
-use Rattle.draw.specs.Fills.{fills}
+use Rattle.draw.specs.Fills.{traded}
 use Rattle.rules.specs.declared.records.Answer.{Answer}
 use Rattle.rules.specs.declared.records.Request.{Request}
 use Rattle.rules.specs.declared.records.Terms.{Terms}
@@ -28,9 +25,9 @@ use Rattle.rules.specs.State.{State, an-offer, an-answer, a-request}
 use Rattle.rules.specs.Reports.{fills-by, filled-by, kills}
 use Rattle.rules.specs.Offers.{to-request, firms, under, by-number}
 use Rattle.rules.specs.Calls.{ending}
-use Rattle.rules.specs.Step.{less, ends, traded, ranked-for, units-of, decision-at, decision-in-turn, with-end, with-end-if, turn, turn-by, confirmed-by, one-by-one, expiry}
+use Rattle.rules.specs.Step.{less, ends, trade, ranked-for, decision-at, decision-in-turn, with-end, with-end-if, turn, turn-by, confirmed-by, one-by-one, expiry}
 use Rattle.rules.specs.History.{Ledger, with-reports, living, open-requests, standing, drawn-on}
-use Rattle.rules.specs.Law.{Fair, TurnBy, Turn, Turns, ConfirmedBy, ended, ended-if, expired, expiry-of}
+use Rattle.rules.specs.Law.{TradesFairly, TurnBy, Turn, Turns, ConfirmedBy, ended, ended-if, expired, expiry-of}
 use Rattle.rules.proofs.Left.{remain-remain, count}
 use Rattle.rules.proofs.Pours.{own-fills, other-fills, fills-by-append, fills-by-kills}
 use Rattle.rules.proofs.Fine.{Sound, Fine, less-sound, offer-laws, answer-laws, request-laws}
@@ -108,10 +105,10 @@ module _ (l : Ledger) (b : State) (g : Sound (told l b)) where
   pub confirmed-law : (d : Side) (p : ℕ) (r : Request) (e : Option Side) (m : Quantity) → r .left .0 % b .book .lot ≡ 0 → ConfirmedBy (b .book .lot) l d p r (Manual e m) (confirmed-by s d p r (Manual e m))
   confirmed-law d p r e m w =
       let n = r .number .0 in
-      let fs = fills (ranked-for s r d) (units-of (decision-at s r d p (m .0))) in
+      let fs = traded (ranked-for s r d) (decision-at s r d p (m .0)) in
       let is = ended-same n fs in
       let q : fills-by n (confirmed-by s d p r (Manual e m)) ≡ fs = ap (fills-by n) is ∙ fills-end n fs in (
-        subst (Fair d (drawn-on l r d) (Good d (b .book .lot) p (m .0) (r .left .0) (drawn-on l r d))) (sym q) (fair-at s r d g w p (m .0)),
+        subst (TradesFairly d (drawn-on l r d) (Good d (b .book .lot) p (m .0) (r .left .0) (drawn-on l r d))) (sym q) (fair-at s r d g w p (m .0)),
         is ∙ ap (ended l n) (sym q),
       )
 
@@ -122,10 +119,10 @@ module _ (l : Ledger) (b : State) (g : Sound (told l b)) where
       go (Manual e m) = refl
       go (Automatic d limit m) =
           let n = r .number .0 in
-          let fs = fills (ranked-for s r d) (units-of (decision-in-turn s r d (limit .0) (m .0))) in
+          let fs = traded (ranked-for s r d) (decision-in-turn s r d (limit .0) (m .0)) in
           let is = ended-if-same n fs in
           let q : fills-by n (turn-by s r (Automatic d limit m)) ≡ fs = ap (fills-by n) is ∙ fills-if n fs in (
-            subst (Fair d (drawn-on l r d) (GoodAutomatic d (b .book .lot) (limit .0) (r .left .0) (m .0) (firms n (living l)) (drawn-on l r d))) (sym q) (fair-in-turn s r d g w some (limit .0) (m .0)),
+            subst (TradesFairly d (drawn-on l r d) (GoodAutomatic d (b .book .lot) (limit .0) (r .left .0) (m .0) (firms n (living l)) (drawn-on l r d))) (sym q) (fair-in-turn s r d g w some (limit .0) (m .0)),
             is ∙ ap (ended-if l n) (sym q),
           )
 
@@ -155,7 +152,7 @@ turn-others s r n ne = go (r .terms)
 
     go : (t : Terms) → fills-by n (turn-by s r t) ≡ []
     go (Manual e m) = refl
-    go (Automatic d limit m) = with-if (traded s r d (decision-in-turn s r d (limit .0) (m .0))) (other-fills n k ne (fills (ranked-for s r d) (units-of (decision-in-turn s r d (limit .0) (m .0)))))
+    go (Automatic d limit m) = with-if (trade s r d (decision-in-turn s r d (limit .0) (m .0))) (other-fills n k ne (traded (ranked-for s r d) (decision-in-turn s r d (limit .0) (m .0))))
 
 turns-others : (rs : List Request) (s : State) (n : ℕ) → All (λ (r : Request). r .number .0 ≡ n → ⊥) rs → fills-by n (one-by-one turn rs s) ≡ []
 unfolding one-by-one fills-by

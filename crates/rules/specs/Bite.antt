@@ -6,15 +6,15 @@ use Rattle.std.specs.shelf.Lists.{All}
 use Rattle.std.specs.declared.result.Result.the-variants.{Ok, Err}
 use Rattle.units.specs.declared.side.Side.the-variants.{Buy, Sell}
 use Rattle.units.specs.declared.refusal.Refusal.the-variants as refusals
-use Rattle.rules.specs.declared.reports.KillReason.the-variants.{RequestDone, AnswerDone, RequestWithdrawn, AnswerDropped, RequestExpired, Withdrawn}
+use Rattle.rules.specs.declared.reports.KillReason.the-variants.{RequestDone, AnswerDone, RequestWithdrawn, RequestExpired, Withdrawn}
 use Rattle.rules.specs.declared.reports.Report.{Report}
-use Rattle.rules.specs.State.{State, Opening}
+use Rattle.rules.specs.State.{State, Opening, opened}
 use Rattle.rules.specs.Reports.{filled-by, kill}
 use Rattle.rules.specs.Calls.{Call, Sent, Reply}
 use Rattle.rules.specs.Step.{acceptance, received}
 use Rattle.rules.specs.History.{History, Event, after}
 use Rattle.rules.specs.Law.{Replies, Lawful}
-use Rattle.rules.specs.Examples.{sent, played, history, orders, requests, buys-by-itself, answers, confirms, withdraws, clock-to, three, by-itself, timed, rounded}
+use Rattle.rules.specs.Examples.{seat, sent, requests-for, played, history, orders, requests, buys-by-itself, answers, confirms, withdraws, clock-to, three, by-itself, timed, rounded}
 
 -- ── no choice ──
 
@@ -119,6 +119,13 @@ late = reporting timed (clock-to 185000) 0 []
 abbrev pub early : Bad
 early = reporting timed (clock-to 184999) 0 (kill RequestExpired 2 5000 ∷ [])
 
+-- expires by number, though the second deadline is the earlier
+abbrev two-deadlines : List Call
+two-deadlines = requests-for 180 ∷ requests-for 100 ∷ []
+
+abbrev pub by-number : Bad
+by-number = reporting two-deadlines (clock-to 180000) 0 (kill RequestExpired 1 100 ∷ kill RequestExpired 2 100 ∷ [])
+
 -- gives turns before it expires
 abbrev pub turns-first : Bad
 turns-first = reporting two-due (clock-to 180000) 0 (fill 2 1 300 980 ∷ fill 3 1 400 980 ∷ [])
@@ -166,7 +173,7 @@ trace = record { calls = three 0; last = confirms Sell 992; reply = Err refusals
 abbrev pub bad : List Bad
 bad =
     unlooked ∷ best-only ∷ bookless ∷ dear ∷ by-rounding ∷ overstated ∷ answers-first ∷ later-first ∷ stolen ∷ answers-as-firms
-    ∷ first-only ∷ none-served ∷ turned-round ∷ late ∷ early ∷ turns-first ∷ worse-price ∷ later-offer ∷ past-price ∷ passive
+    ∷ first-only ∷ none-served ∷ turned-round ∷ late ∷ early ∷ by-number ∷ turns-first ∷ worse-price ∷ later-offer ∷ past-price ∷ passive
     ∷ number-twice ∷ inert ∷ orphans ∷ refuses-all ∷ accepts-all ∷ other-reason ∷ trace ∷ []
 
 -- the history of the calls, with the wrong engine's last event
@@ -177,12 +184,31 @@ ends-badly b = after (history (b .calls)) (record { sent = sent (b .last); reply
 abbrev pub BadBreaks : Type 0
 BadBreaks = All (λ (b : Bad). (s : State) → Lawful (ends-badly b) s → ⊥) bad
 
--- ── right replies and reports, and a wrong state ──
+-- ── right replies and reports, and something else held ──
+
+pub record Held : Type 0 where
+  pub calls : List Call
+  pub state : State
 
 -- a book that was not taken from
-abbrev pub KeptBookBreaks : Type 0
-KeptBookBreaks = Lawful (history (three 0 ++ confirms Buy 992 ∷ [])) (played (three 0)) → ⊥
+abbrev pub untaken : Held
+untaken = record { calls = three 0 ++ confirms Buy 992 ∷ []; state = played (three 0) }
 
 -- an order that was refused, for its price is 0, and stands in the book nevertheless
-abbrev pub TraceBreaks : Type 0
-TraceBreaks = Lawful (history (three 0 ++ orders 4 Sell 0 100 ∷ [])) (received (played (three 0)) (orders 4 Sell 0 100)) → ⊥
+abbrev pub left-trace : Held
+left-trace = record { calls = three 0 ++ orders 4 Sell 0 100 ∷ []; state = received (played (three 0)) (orders 4 Sell 0 100) }
+
+-- an answer that was withdrawn, and lives on
+abbrev pub undead : Held
+undead = record { calls = three 0 ++ withdraws 3 4 ∷ []; state = played (three 0) }
+
+-- a clock that stands still
+abbrev pub still : Held
+still = record { calls = clock-to 5000 ∷ []; state = opened seat }
+
+abbrev pub held : List Held
+held = untaken ∷ left-trace ∷ undead ∷ still ∷ []
+
+-- none of this is lawful after these calls
+abbrev pub HeldBreaks : Type 0
+HeldBreaks = All (λ (w : Held). Lawful (history (w .calls)) (w .state) → ⊥) held

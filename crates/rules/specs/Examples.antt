@@ -63,6 +63,10 @@ orders f d p q = order (firm f) (Some d) (record { 0 = p }) (record { 0 = q })
 abbrev pub requests : Side → ℕ → ℕ → Call
 requests d q m = manual (firm 1) (Some d) (record { 0 = q }) (record { 0 = m }) (record { 0 = 180 })
 
+-- 100 to buy, by firm 1, for so many seconds
+abbrev pub requests-for : ℕ → Call
+requests-for w = manual (firm 1) (Some Buy) (record { 0 = 100 }) (record { 0 = 0 }) (record { 0 = w })
+
 -- limit, quantity, minimum firms; to buy, by firm 1, for 180 seconds
 abbrev pub buys-by-itself : ℕ → ℕ → ℕ → Call
 buys-by-itself p q m = automatic (firm 1) (Some Buy) (record { 0 = p }) (record { 0 = q }) (record { 0 = m }) (record { 0 = 180 })

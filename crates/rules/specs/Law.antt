@@ -14,8 +14,8 @@ use Rattle.draw.specs.declared.offers.Eligible.{Eligible}
 use Rattle.draw.specs.declared.fills.Fill.{Fill}
 use Rattle.draw.specs.Sides.{NoWorse}
 use Rattle.draw.specs.Rankings.{request-before}
-use Rattle.draw.specs.Draws.{Draw, size, Good, GoodAutomatic, Trades, BestTerms}
-use Rattle.draw.specs.Fills.{taken, fills}
+use Rattle.draw.specs.Draws.{Draw, size, Good, GoodAutomatic}
+use Rattle.draw.specs.Fills.{taken, fills, Fair}
 use Rattle.rules.specs.declared.records.Request.{Request}
 use Rattle.rules.specs.declared.records.Terms.{Terms}
 use Rattle.rules.specs.declared.records.Terms.the-variants.{Manual, Automatic}
@@ -32,17 +32,11 @@ use Rattle.rules.specs.History.{Event, History, Ledger, ledger, time, with-cal
 
 -- ── a turn ──
 
--- fills that trade, of a request on the side d that may draw on the offers os: they are the draw that trades of those that are good, on best terms,
--- and tell it in request ranking, each maker once and at its own price
-pub record Traded (d : Side) (os : List Eligible) (IsGood : Draw → Type 0) (fs : List Fill) : Type 0 where
-  pub trades : Trades (request-before d) os IsGood (taken fs)
-  pub terms : BestTerms d os IsGood (taken fs)
+-- the law of a turn, of the fills of a request on the side d that may draw on the offers os: they are fair, that is, there are none exactly
+-- where no draw is good, and else they are the draw that trades, on best terms; and they come in request ranking, each maker once and at its own price
+pub record TradesFairly (d : Side) (os : List Eligible) (IsGood : Draw → Type 0) (fs : List Fill) : Type 0 where
+  pub fair : Fair d (request-before d) os IsGood fs
   pub in-order : fs ≡ fills (request-ranking d os) (size os (taken fs))
-
--- the law of a turn: there are no fills exactly where no draw is good
-abbrev pub Fair : Side → List Eligible → (Draw → Type 0) → List Fill → Type 0
-Fair d os IsGood [] = (x : Draw) → IsGood x → ⊥
-Fair d os IsGood (f ∷ fs) = Traded d os IsGood (f ∷ fs)
 
 -- fills of the request n, then its end: its kill, and its living answers' kills by number
 abbrev pub ended : Ledger → ℕ → List Fill → List Report
@@ -60,7 +54,7 @@ module _ (lot : ℕ) where
   abbrev pub TurnBy : Ledger → Request → Terms → List Report → Type 0
   TurnBy l r (Manual e m) rs = rs ≡ []
   TurnBy l r (Automatic d limit m) rs =
-      Fair d (drawn-on l r d)
+      TradesFairly d (drawn-on l r d)
       (GoodAutomatic d lot (limit .0) (r .left .0) (m .0) (firms (r .number .0) (living l)) (drawn-on l r d))
       (fills-by (r .number .0) rs)
       × (rs ≡ ended-if l (r .number .0) (fills-by (r .number .0) rs))
@@ -71,7 +65,7 @@ module _ (lot : ℕ) where
   -- a confirmation of the open request r on the side d at the price p reported rs: it ends, filled or not; an automatic request has none
   abbrev pub ConfirmedBy : Ledger → Side → ℕ → Request → Terms → List Report → Type 0
   ConfirmedBy l d p r (Manual e m) rs =
-      Fair d (drawn-on l r d)
+      TradesFairly d (drawn-on l r d)
       (Good d lot p (m .0) (r .left .0) (drawn-on l r d))
       (fills-by (r .number .0) rs)
       × (rs ≡ ended l (r .number .0) (fills-by (r .number .0) rs))
@@ -143,7 +137,7 @@ Accepts lot l n (answer f d k p q) rs = Answered lot l (first (under a-request (
 Accepts lot l n (confirmation f d k p) rs = Confirmed lot l d (p .0) (first (under a-request (k .0) (open-requests l))) rs
 Accepts lot l n (clock t) rs = ClockStep lot l (t .0) rs
 
--- an acceptance after the events es: no check calls for a refusal; the number given is one above the greatest that came, or 0;
+-- an acceptance after the events es: no check calls for a refusal; the number given is one above the greatest that came, 0 where the message gets none;
 -- it counts its reports, and tells the size and the money of what they trade
 pub record Accepting (o : Opening) (es : List Event) (m : Sent) (a : Accepted) (rs : List Report) : Type 0 where
   pub passed : refusal (stands o es) m ≡ None

@@ -16,14 +16,14 @@ use Rattle.draw.specs.declared.offers.Offered.{Offered}
 use Rattle.draw.specs.declared.offers.Taker.{Taker}
 use Rattle.draw.specs.declared.offers.Eligible.{Eligible}
 use Rattle.draw.specs.Sides.{no-worse}
-use Rattle.draw.specs.Offers.{as-eligible, eligible, same-side}
+use Rattle.draw.specs.Offers.{as-eligible}
 use Rattle.draw.specs.Rankings.{request-before, trading-before}
 use Rattle.draw.specs.Firms.{different, firms-of}
 use Rattle.rules.specs.declared.records.Answer.{Answer}
 use Rattle.rules.specs.declared.records.Request.{Request}
 use Rattle.rules.specs.declared.records.Terms.{Terms}
 use Rattle.rules.specs.declared.records.Terms.the-variants.{Manual, Automatic}
-use Rattle.rules.specs.State.{Kept, an-answer, a-request}
+use Rattle.rules.specs.State.{Kept, a-request}
 
 -- ── lists ──
 

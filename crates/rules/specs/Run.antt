@@ -1,12 +1,12 @@
 -- Which histories lead to a state, and the clause of every call.
 use mathlib.Core.Path.{_≡_}
 use mathlib.Core.List.{List, [], _∷_}
-use Prim.Native.Nat.{ℕ, _≤_}
+use Prim.Native.Nat.{_≤_}
 use Rattle.book.specs.Laws.{Sound}
 use Rattle.rules.specs.declared.reports.Report.{Report}
 use Rattle.rules.specs.State.{State, Opening, opened}
 use Rattle.rules.specs.Calls.{Sent, Reply}
-use Rattle.rules.specs.Step.{Out, step}
+use Rattle.rules.specs.Step.{step}
 use Rattle.rules.specs.History.{Event, History, newly, after, messages}
 use Rattle.rules.specs.Law.{Lawful}
 

@@ -2,18 +2,17 @@
 use mathlib.Core.Path.{_≡_}
 use mathlib.Core.List.{List}
 use mathlib.Core.Bool.{Bool, true, _&&_}
-use Prim.Native.Nat.{ℕ, _+_, _≤_, _<_}
+use Prim.Native.Nat.{ℕ, _+_, _≤_}
 use lib.Dec.{eqb, leb}
 use lib.ListN.{length}
 use Rattle.std.specs.shelf.Lists.{All, countBy}
 use Rattle.std.specs.declared.option.Option.the-variants.{Some}
 use Rattle.units.specs.declared.side.Side.{Side}
+use Rattle.units.specs.Sides.{other}
 use Rattle.units.specs.Ranges.{is-number, is-member, is-price, is-quantity}
-use Rattle.ranked.specs.Lists.{Apart}
 use Rattle.book.specs.Meaning.{side-of}
 use Rattle.book.specs.Laws as book
-use Rattle.draw.specs.declared.offers.Eligible.{Eligible}
-use Rattle.draw.specs.Offers.{Ready, named}
+use Rattle.draw.specs.Offers.{Ready, Pourable}
 use Rattle.rules.specs.declared.records.Answer.{Answer}
 use Rattle.rules.specs.declared.records.Request.{Request}
 use Rattle.rules.specs.declared.records.Terms.{Terms}
@@ -21,7 +20,7 @@ use Rattle.rules.specs.declared.records.Terms.the-variants.{Manual, Automatic}
 use Rattle.rules.specs.State.{Kept, State, Opening, opened, an-offer, an-answer, a-request}
 use Rattle.rules.specs.Calls.{Call, Sent}
 use Rattle.rules.specs.Calls.Call.{order, withdrawal, manual, automatic, answer, confirmation, clock}
-use Rattle.rules.specs.Offers.{under, first, met}
+use Rattle.rules.specs.Offers.{under, first, met, crossing, trading-ranking}
 use Rattle.rules.specs.Step.{step, on-offer}
 use Rattle.rules.specs.Takes.{Listed}
 use Rattle.rules.specs.Run.{Opens}
@@ -82,6 +81,6 @@ pub record SoundIsKept : Type 0 where
 -- for what draws ask of the offers of a request, what an order's fills ask of the side that it meets, what takes ask of a side of the book, and room for reports
 pub record SoundSuffices : Type 0 where
   pub draws : (s : State) → Sound s → (n : ℕ) (r : Request) (d : Side) → first (under a-request n (s .requests)) ≡ Some r → Ready (s .book .lot) (r .left .0) (on-offer s r d)
-  pub orders : (s : State) → Sound s → (d : Side) → Apart named (met d (side-of (s .book) d)) × All (λ (o : Eligible). 0 < o .left .0) (met d (side-of (s .book) d))
+  pub orders : (s : State) → Sound s → (d : Side) (p : ℕ) → Pourable (trading-ranking d (crossing d p (met (other d) (side-of (s .book) (other d)))))
   pub takes : (s : State) → Sound s → (d : Side) → Listed (side-of (s .book) d)
   pub room : (s : State) (m : Sent) → Sound s → length (step s m .reports) ≤ 2048

@@ -1,6 +1,5 @@
 -- What each message does to a market as values: the checks, the reports, and the state after them.
-use mathlib.Core.List.{List, [], _∷_, _++_}
-use mathlib.Core.Bool.{cond}
+use mathlib.Core.List.{List, [], _∷_, _++_, map}
 use Prim.Native.Nat.{ℕ}
 use lib.ListN.{length}
 use Rattle.std.specs.declared.option.Option.{Option}
@@ -16,6 +15,7 @@ use Rattle.draw.specs.declared.offers.Eligible.{Eligible}
 use Rattle.draw.specs.Offers.{eligible}
 use Rattle.draw.specs.Walk.{decided}
 use Rattle.draw.specs.Decisions as decisions
+use Rattle.draw.specs.Fills.{traded}
 use Rattle.rules.specs.declared.records.Request.{Request}
 use Rattle.rules.specs.declared.records.Terms.{Terms}
 use Rattle.rules.specs.declared.records.Terms.the-variants.{Manual, Automatic}
@@ -23,7 +23,7 @@ use Rattle.rules.specs.declared.reports.KillReason.{KillReason}
 use Rattle.rules.specs.declared.reports.KillReason.the-variants as reasons
 use Rattle.rules.specs.declared.reports.Report.{Report}
 use Rattle.rules.specs.State.{State, an-offer, an-answer, a-request}
-use Rattle.rules.specs.Reports.{remain, pour, size-of, money-of}
+use Rattle.rules.specs.Reports.{filled-by, remain, pour, size-of, money-of}
 use Rattle.rules.specs.Offers.{under, first, firms, expiring, in-turn, offered, taker-of, request-ranking, met, crossing, trading-ranking}
 use Rattle.rules.specs.Calls.{Call, Sent, Reply, brings, given, next-of, time-of, ending, withdrawn}
 use Rattle.rules.specs.Calls.Call.{order, withdrawal, manual, automatic, answer, confirmation, clock}
@@ -68,13 +68,9 @@ on-offer s r d = eligible (taker-of r d) (offered (s .book .buys) (s .book .sell
 abbrev pub ranked-for : State → Request → Side → List Eligible
 ranked-for s r d = request-ranking d (on-offer s r d)
 
--- the units that were decided on
-abbrev pub units-of : Option (Quantity × Money) → ℕ
-units-of None = 0
-units-of (Some t) = t .0 .0
-
-abbrev pub traded : State → Request → Side → Option (Quantity × Money) → List Report
-traded s r d decision = pour (r .number .0) (ranked-for s r d) (units-of decision)
+-- the fills of what was decided
+abbrev pub trade : State → Request → Side → Option (Quantity × Money) → List Report
+trade s r d found = map (filled-by (r .number .0)) (traded (ranked-for s r d) found)
 
 -- the end of the request n
 abbrev pub ends : State → ℕ → KillReason → KillReason → List Report
@@ -99,7 +95,7 @@ decision-in-turn s r d limit least-firms = decisions.automatic d (s .book .lot) 
 
 -- a confirmation; one of an automatic request is refused
 abbrev pub confirmed-by : State → Side → ℕ → Request → Terms → List Report
-confirmed-by s d p r (Manual e m) = with-end s (r .number .0) (traded s r d (decision-at s r d p (m .0)))
+confirmed-by s d p r (Manual e m) = with-end s (r .number .0) (trade s r d (decision-at s r d p (m .0)))
 confirmed-by s d p r (Automatic e limit m) = []
 
 abbrev pub confirmed : State → Option Side → ℕ → Option Request → List Report
@@ -110,7 +106,7 @@ confirmed s (Some d) p (Some r) = confirmed-by s d p r (r .terms)
 -- a turn; a manual request has none
 abbrev pub turn-by : State → Request → Terms → List Report
 turn-by s r (Manual e m) = []
-turn-by s r (Automatic d limit m) = with-end-if s (r .number .0) (traded s r d (decision-in-turn s r d (limit .0) (m .0)))
+turn-by s r (Automatic d limit m) = with-end-if s (r .number .0) (trade s r d (decision-in-turn s r d (limit .0) (m .0)))
 
 abbrev pub turn : State → Request → List Report
 turn s r = turn-by s r (r .terms)

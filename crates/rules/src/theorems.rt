@@ -1,5 +1,5 @@
 // The theorems of this crate, each carried by a function that is named as its sentence.
-ghost use Rattle.rules.specs.Bite.{NoChoice, OneHistory, BadBreaks, KeptBookBreaks, TraceBreaks};
+ghost use Rattle.rules.specs.Bite.{NoChoice, OneHistory, BadBreaks, HeldBreaks};
 ghost use Rattle.rules.specs.Examples.{Marked, SeatOpens, InTableOrder};
 ghost use Rattle.rules.specs.Room.{RoomForReports};
 ghost use Rattle.rules.specs.Run.{StepIsLawful, RunsAreLawful};
@@ -28,8 +28,7 @@ pub fn the_law_bites() -> u8
     ensures choice { λ _. ⌜ NoChoice ⌝ }
     ensures history { λ _. ⌜ OneHistory ⌝ }
     ensures wrong { λ _. ⌜ BadBreaks ⌝ }
-    ensures book { λ _. ⌜ KeptBookBreaks ⌝ }
-    ensures trace { λ _. ⌜ TraceBreaks ⌝ }
+    ensures held { λ _. ⌜ HeldBreaks ⌝ }
 {
     0
 }
