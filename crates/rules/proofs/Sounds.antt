@@ -1,8 +1,8 @@
 -- Soundness is kept, and suffices.
-use mathlib.Core.Path.{_≡_, refl, subst}
+use mathlib.Core.Path.{_≡_, refl, sym, ap₂, subst}
 use mathlib.Core.List.{List, [], _∷_, _++_, map}
 use mathlib.Core.Bool.{Bool, true, false, cond, _&&_, _||_, not}
-use Prim.Native.Nat.{ℕ, _+_, _%_, _≤_, _<_}
+use Prim.Native.Nat.{ℕ, _+_, _*_, _%_, _≤_, _<_}
 use native.Mathlib.Omega.{arith}
 use lib.Dec.{eqb, leb, ltb}
 use lib.ListN.{length}
@@ -22,13 +22,20 @@ use Rattle.std.proofs.shelf.Sorted.{all-shuffled}
 use Rattle.units.specs.Sides.{other}
 use Rattle.ranked.proofs.Placing.{ranked-shuffled}
 use Rattle.draw.specs.Sides.{no-worse}
-use Rattle.draw.specs.Rankings.{trading-before}
+use Rattle.ranked.specs.Lists.{ranked}
+use Rattle.std.proofs.shelf.Sums.{sumBy-cons}
+use Rattle.draw.specs.Rankings.{request-before, trading-before}
+use Rattle.draw.specs.Draws.{Draw, size, money, totals, status-draw}
+use Rattle.draw.specs.Decisions.{Shows}
+use Rattle.draw.proofs.Finds.{same-size, same-money}
+use Rattle.draw.proofs.Decided.{shows}
+use Rattle.rules.specs.Status.{status-of}
 use Rattle.draw.specs.declared.offers.Eligible.{Eligible}
 use Rattle.draw.specs.declared.offers.Offered.{Offered}
 use Rattle.draw.specs.Offers as draws
-use Rattle.draw.specs.Offers.{as-eligible}
-use Rattle.draw.proofs.Bounds.{quantity-bounds, lot-bounds}
-use Rattle.draw.proofs.Sides.{whole-sub}
+use Rattle.draw.specs.Offers.{as-eligible, named}
+use Rattle.draw.proofs.Bounds.{quantity-bounds, lot-bounds, price-bounds}
+use Rattle.draw.proofs.Sides.{whole-sub, times}
 use Rattle.rules.specs.declared.records.Answer.{Answer}
 use Rattle.rules.specs.declared.records.Request.{Request}
 use Rattle.rules.specs.declared.reports.Report.{Report}
@@ -344,10 +351,33 @@ listed lot (o ∷ os) c a = (
   listed lot os (λ n. (let h = c n in omega arith)) (a .1),
 )
 
+-- ── statuses ──
+
+money-bound : (lot : ℕ) (os : List Eligible) (x : Draw) → All (draws.Sound lot) os → money os x ≤ 1000000000 * size os x
+money-bound lot [] x a = omega arith
+money-bound lot (o ∷ os) x a =
+    let h = money-bound lot os x (a .1) in
+    let b = price-bounds (o .price .0) (a .0 .price) .1 in
+    let t = times Buy (o .price .0) 1000000000 (x (named o)) b in
+    let m = sumBy-cons (λ (y : Eligible). y .price .0 * x (named y)) o os in
+    let n = sumBy-cons (λ (y : Eligible). x (named y)) o os in
+    omega arith
+
+shown : (s : State) → Sound s → (n : ℕ) (r : Request) (d : Side) → first (under a-request n (s .requests)) ≡ Some r →
+    Shows d (request-before d) (r .left .0) (on-offer s r d) (status-of s r d .size, status-of s r d .money)
+shown s g n r d e =
+    let on = on-offer s r d in
+    let k = priced s r d (in-parts s g .0) in
+    let x = status-draw (request-before d) on (r .left .0) in
+    shows d (request-before d) on k (r .left .0) (ranked (request-before d) on) (totals on x) refl
+    (ap₂ (λ (a b : ℕ). (record { 0 = a }, record { 0 = b })) (sym (same-size d (request-before d) on k x)) (sym (same-money d (request-before d) on k x)))
+    (money-bound (s .book .lot) on x (ready s g n r d e .sound))
+
 pub sound-suffices : SoundSuffices
 sound-suffices = record {
   draws = ready;
   orders = pourable;
   takes = λ s g d. (let p = side-parts s g d in listed (s .book .lot) (side-of (s .book) d) (p .0) (p .1));
   room = λ s m g. (let p = in-parts s g in length-step s m (p .0) (p .1));
+  statuses = shown;
 }

@@ -13,6 +13,8 @@ use Rattle.units.specs.Ranges.{is-number, is-member, is-price, is-quantity}
 use Rattle.book.specs.Meaning.{side-of}
 use Rattle.book.specs.Laws as book
 use Rattle.draw.specs.Offers.{Ready, Pourable}
+use Rattle.draw.specs.Rankings.{request-before}
+use Rattle.draw.specs.Decisions.{Shows}
 use Rattle.rules.specs.declared.records.Answer.{Answer}
 use Rattle.rules.specs.declared.records.Request.{Request}
 use Rattle.rules.specs.declared.records.Terms.{Terms}
@@ -22,6 +24,7 @@ use Rattle.rules.specs.Calls.{Call, Sent}
 use Rattle.rules.specs.Calls.Call.{order, withdrawal, manual, automatic, answer, confirmation, clock}
 use Rattle.rules.specs.Offers.{under, first, met, crossing, trading-ranking}
 use Rattle.rules.specs.Step.{step, on-offer}
+use Rattle.rules.specs.Status.{status-of}
 use Rattle.rules.specs.Takes.{Listed}
 use Rattle.rules.specs.Run.{Opens}
 
@@ -78,9 +81,12 @@ pub record SoundIsKept : Type 0 where
 
 -- ── it suffices ──
 
--- for what draws ask of the offers of a request, what an order's fills ask of the side that it meets, what takes ask of a side of the book, and room for reports
+-- for what draws ask of the offers of a request, what an order's fills ask of the side that it meets, what takes ask of a side of the book, room for reports,
+-- and for what a status promises: its quantity or all there is, and no draw of as many units has better terms
 pub record SoundSuffices : Type 0 where
   pub draws : (s : State) → Sound s → (n : ℕ) (r : Request) (d : Side) → first (under a-request n (s .requests)) ≡ Some r → Ready (s .book .lot) (r .left .0) (on-offer s r d)
   pub orders : (s : State) → Sound s → (d : Side) (p : ℕ) → Pourable (trading-ranking d (crossing d p (met (other d) (side-of (s .book) (other d)))))
   pub takes : (s : State) → Sound s → (d : Side) → Listed (side-of (s .book) d)
   pub room : (s : State) (m : Sent) → Sound s → length (step s m .reports) ≤ 2048
+  pub statuses : (s : State) → Sound s → (n : ℕ) (r : Request) (d : Side) → first (under a-request n (s .requests)) ≡ Some r →
+      Shows d (request-before d) (r .left .0) (on-offer s r d) (status-of s r d .size, status-of s r d .money)
