@@ -1,0 +1,4 @@
+pub mod Gathered
+pub mod Lessening
+pub mod Ordered
+pub mod Takings

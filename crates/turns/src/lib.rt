@@ -1,0 +1,15 @@
+// The parts of one turn, over a book of any kind: what a request may draw on, what fills take from the book, what reports leave of the tables, and the end of a request.
+mod answers;
+mod ending;
+mod gathering;
+mod requests;
+mod settling;
+mod tables;
+
+pub use answers::AnswerStanding;
+pub use ending::end_request;
+pub use gathering::gather;
+pub use requests::RequestStanding;
+pub use settling::settle;
+pub use tables::Standing;
+pub use tables::lessen;
