@@ -2,3 +2,4 @@ pub mod Gathered
 pub mod Lessening
 pub mod Ordered
 pub mod Takings
+pub mod Trades

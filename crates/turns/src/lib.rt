@@ -5,6 +5,7 @@ mod gathering;
 mod requests;
 mod settling;
 mod tables;
+mod trading;
 
 pub use answers::AnswerStanding;
 pub use ending::end_request;
@@ -13,3 +14,5 @@ pub use requests::RequestStanding;
 pub use settling::settle;
 pub use tables::Standing;
 pub use tables::lessen;
+pub use trading::trade_at;
+pub use trading::trade_in_turn;
