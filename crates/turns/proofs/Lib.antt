@@ -1,3 +1,4 @@
+pub mod Finished
 pub mod Gathered
 pub mod Lessening
 pub mod Ordered

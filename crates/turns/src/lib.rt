@@ -1,6 +1,7 @@
 // The parts of one turn, over a book of any kind: what a request may draw on, what fills take from the book, what reports leave of the tables, and the end of a request.
 mod answers;
 mod ending;
+mod finishing;
 mod gathering;
 mod requests;
 mod settling;
@@ -9,6 +10,8 @@ mod trading;
 
 pub use answers::AnswerStanding;
 pub use ending::end_request;
+pub use finishing::Counts;
+pub use finishing::finish;
 pub use gathering::gather;
 pub use requests::RequestStanding;
 pub use settling::settle;
