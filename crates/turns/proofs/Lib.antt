@@ -1,4 +1,5 @@
 pub mod Finished
+pub mod Following
 pub mod Gathered
 pub mod Lessening
 pub mod Ordered

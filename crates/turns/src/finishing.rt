@@ -6,6 +6,7 @@ ghost use Rattle.units.specs.Sides.{other};
 ghost use Rattle.ranked.specs.Writes.{Writes};
 ghost use Rattle.rules.specs.State.{an-answer, a-request};
 ghost use Rattle.rules.specs.Reports.{remain};
+ghost use Rattle.turns.specs.Follows.{TradesSettle};
 ghost use Rattle.turns.specs.Settled.{book-less, Settles};
 ghost use Rattle.turns.specs.Tables.{Rising};
 ghost use Rattle.turns.specs.Turn.{part, ending-after, ended};
@@ -113,6 +114,7 @@ fn settle_and_end<B: Book>(
     ensures long_requests { λ _. ⌜ length (now (requests .exit)) ≡ length (now (requests .entry)) ⌝ }
     ensures long_answers { λ _. ⌜ length (now (answers .exit)) ≡ length (now (answers .entry)) ⌝ }
     ensures book { λ _. ⌜ (Settles (B·Book .means (now (book .entry))) (other side) (part from to (now (reports .entry))) → B·Book .means (now (book .exit)) ≡ book-less (part from to (now (reports .entry))) (B·Book .means (now (book .entry)))) ⌝ }
+    ensures sound { λ _. ⌜ TradesSettle ⌝ }
 {
     settle(book, side.opposite(), &reports[from..to]);
     end_and_lessen(requests, answers, counts, number, reports, from, to)
@@ -144,6 +146,7 @@ pub fn finish<B: Book>(
     ensures long_requests { λ _. ⌜ length (now (requests .exit)) ≡ length (now (requests .entry)) ⌝ }
     ensures long_answers { λ _. ⌜ length (now (answers .exit)) ≡ length (now (answers .entry)) ⌝ }
     ensures book { λ _. ⌜ (Settles (B·Book .means (now (book .entry))) (other side) (part from to (now (reports .entry))) → B·Book .means (now (book .exit)) ≡ book-less (part from to (now (reports .entry))) (B·Book .means (now (book .entry)))) ⌝ }
+    ensures sound { λ _. ⌜ TradesSettle ⌝ }
 {
     settle_and_end(
         book,

@@ -2,6 +2,7 @@ use mathlib.Core.Path.{sym, ap, subst, _∙_}
 use Rattle.units.specs.declared.side.Side.{Side}
 use Rattle.turns.specs.Settled.{Settles}
 use Rattle.turns.specs.Turn.{part}
+use Rattle.turns.proofs.Following.{trades-settle}
 use Rattle.turns.proofs.finishing.settle_and_end.Needs as need
 
 pub returns : need.returns
@@ -14,4 +15,5 @@ returns g c = record {
   long-requests = c .end-and-lessen .ensures .long-requests;
   long-answers = c .end-and-lessen .ensures .long-answers;
   book = λ h. c .settle .ensures .left (subst (λ (d : Side). Settles (g .B·Book .means (c .args .book .now)) d (part (c .args .from) (c .args .to) (c .args .reports .now))) (sym (c .opposite .ensures)) h);
+  sound = trades-settle;
 }
