@@ -1,5 +1,6 @@
 // The parts of one turn, over a book of any kind: what a request may draw on, what fills take from the book, what reports leave of the tables, and the end of a request.
 mod answers;
+mod confirming;
 mod ending;
 mod finishing;
 mod gathering;
@@ -9,6 +10,8 @@ mod tables;
 mod trading;
 
 pub use answers::AnswerStanding;
+pub use confirming::Turned;
+pub use confirming::confirm;
 pub use ending::end_request;
 pub use finishing::Counts;
 pub use finishing::finish;
