@@ -216,7 +216,7 @@ offer-lots lot (o ∷ os) e = let p = and-parts (in-range lot o) (all-in-range l
 last-part : (a b c d : Bool) → (a && (b && (c && d))) ≡ true → d ≡ true
 last-part a b c d e = and-parts c d (and-parts b (c && d) (and-parts a (b && (c && d)) e .1) .1) .1
 
-sound-counts : (s : State) → rules.Sound s → Sound s
+pub sound-counts : (s : State) → rules.Sound s → Sound s
 sound-counts s g = record {
   lot = (let b = within-parts 1 1000 (s .book .lot) (g .book .lot) .0 in omega arith);
   apart = λ n. (let e = counted n in let a = g .apart n in omega arith);

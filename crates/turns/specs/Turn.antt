@@ -15,7 +15,7 @@ use Rattle.rules.specs.State.{State, an-answer, a-request}
 use Rattle.rules.specs.Reports.{remain}
 use Rattle.rules.specs.Offers.{under, first}
 use Rattle.rules.specs.Calls.{ending}
-use Rattle.rules.specs.Step.{less, trade, with-end, decision-at}
+use Rattle.rules.specs.Step.{less, trade, with-end, with-end-if, decision-at, decision-in-turn}
 use Rattle.rules.specs.Sound.{Sound}
 
 -- what a turn reads and changes; no other part of a market matters to it
@@ -41,3 +41,13 @@ confirmation s r d price least = with-end s (r .number .0) (trade s r d (decisio
 -- the book after it is what its reports leave, in every sound market with this book and these tables in which the request is open
 abbrev pub BookAfter : Meaning → List Request → List Answer → Request → (State → List Report) → Meaning → Type 0
 BookAfter m rs xs r told after = (s : State) → Sound s → s .book ≡ m → s .requests ≡ rs → s .answers ≡ xs → first (under a-request (r .number .0) rs) ≡ Some r → after ≡ less (told s) s .book
+
+-- the reports of a turn of the automatic request r: none where nothing trades
+abbrev pub service : State → Request → Side → ℕ → ℕ → List Report
+service s r d limit least = with-end-if s (r .number .0) (trade s r d (decision-in-turn s r d limit least))
+
+-- book, requests and answers after it are what its reports leave, in every such market
+abbrev pub AllAfter : Meaning → List Request → List Answer → Request → (State → List Report) → Meaning → List Request → List Answer → Type 0
+AllAfter m rs xs r told after-m after-rs after-xs =
+    (s : State) → Sound s → s .book ≡ m → s .requests ≡ rs → s .answers ≡ xs → first (under a-request (r .number .0) rs) ≡ Some r →
+    (after-m ≡ less (told s) s .book) × (after-rs ≡ less (told s) s .requests) × (after-xs ≡ less (told s) s .answers)
