@@ -48,6 +48,7 @@ module _ (settle : TradesSettle) (m : Meaning) (rs : List Request) (xs : List An
   Trade b ys = trade (holding b [] ys) r d (decision-at (holding b [] ys) r d price least)
 
   pub book-after : (fs : List Report) (after : Meaning) → fs ≡ Trade m xs → (Settles m (other d) fs → after ≡ book-less fs m) → BookAfter m rs xs r (λ s. confirmation s r d price least) after
+  unfolding confirmation
   book-after fs after f h s g b p q e =
       let o = subst (λ (v : List Request). first (under a-request (r .number .0) v) ≡ Some r) (sym p) e in
       let same : Trade (s .book) (s .answers) ≡ fs = ap₂ Trade b q ∙ sym f in

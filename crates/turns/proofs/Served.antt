@@ -43,6 +43,7 @@ module _ (m : Meaning) (rs : List Request) (xs : List Answer) (r : Request) (d :
   Trade b ys = trade (holding b [] ys) r d (decision-in-turn (holding b [] ys) r d limit least)
 
   pub nothing-after : Trade m xs ≡ [] → AllAfter m rs xs r (λ s. service s r d limit least) m rs xs
+  unfolding service
   nothing-after f s g b p q e =
       let c = sound-counts s g in
       let none : service s r d limit least ≡ [] = ap (with-end-if s (r .number .0)) (ap₂ Trade b q ∙ f) in (
@@ -55,6 +56,7 @@ module _ (m : Meaning) (rs : List Request) (xs : List Answer) (r : Request) (d :
   pub turn-after : TradesSettle → (fs : List Report) (after-m : Meaning) (after-rs : List Request) (after-xs : List Answer) → fs ≡ Trade m xs → (length fs ≡ 0 → ⊥) →
       (Settles m (other d) fs → after-m ≡ book-less fs m) → after-rs ≡ remain a-request (ended fs rs xs (r .number .0)) rs → after-xs ≡ remain an-answer (ended fs rs xs (r .number .0)) xs →
       AllAfter m rs xs r (λ s. service s r d limit least) after-m after-rs after-xs
+  unfolding service
   turn-after settle fs after-m after-rs after-xs f some h i j s g b p q e =
       let n = r .number .0 in
       let o = subst (λ (v : List Request). first (under a-request n v) ≡ Some r) (sym p) e in

@@ -35,7 +35,7 @@ abbrev pub ended : List Report → List Request → List Answer → ℕ → List
 ended fs rs xs n = fs ++ ending-after fs rs xs n
 
 -- the reports of a confirmation of the request r, on the side d
-abbrev pub confirmation : State → Request → Side → ℕ → ℕ → List Report
+unfoldable pub confirmation : State → Request → Side → ℕ → ℕ → List Report
 confirmation s r d price least = with-end s (r .number .0) (trade s r d (decision-at s r d price least))
 
 -- the book after it is what its reports leave, in every sound market with this book and these tables in which the request is open
@@ -43,7 +43,7 @@ abbrev pub BookAfter : Meaning → List Request → List Answer → Request → 
 BookAfter m rs xs r told after = (s : State) → Sound s → s .book ≡ m → s .requests ≡ rs → s .answers ≡ xs → first (under a-request (r .number .0) rs) ≡ Some r → after ≡ less (told s) s .book
 
 -- the reports of a turn of the automatic request r: none where nothing trades
-abbrev pub service : State → Request → Side → ℕ → ℕ → List Report
+unfoldable pub service : State → Request → Side → ℕ → ℕ → List Report
 service s r d limit least = with-end-if s (r .number .0) (trade s r d (decision-in-turn s r d limit least))
 
 -- book, requests and answers after it are what its reports leave, in every such market

@@ -5,11 +5,12 @@ use Rattle.ranked.proofs.Writing.{writes-as, writes-then}
 use Rattle.rules.specs.State.{an-answer, a-request}
 use Rattle.rules.specs.Reports.{remain}
 use Rattle.rules.specs.declared.reports.Report.{Report}
-use Rattle.turns.specs.Turn.{ending-after, ended}
+use Rattle.turns.specs.Turn.{ending-after, ended, confirmation}
 use Rattle.turns.proofs.Finished.{part-of, book-after}
 use Rattle.turns.proofs.confirming.trade_and_finish.Needs as need
 
 pub returns : need.returns
+unfolding confirmation
 returns g c =
     let m = g .B·Book .means (c .args .book .now) in
     let rs = take (c .args .counts .requests) (c .args .requests .now) in

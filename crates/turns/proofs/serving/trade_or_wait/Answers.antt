@@ -7,13 +7,14 @@ use Rattle.rules.specs.State.{an-answer, a-request}
 use Rattle.rules.specs.Reports.{remain}
 use Rattle.rules.specs.Step.{trade, with-end-if, decision-in-turn}
 use Rattle.rules.specs.declared.reports.Report.{Report}
-use Rattle.turns.specs.Turn.{holding, ending-after, ended}
+use Rattle.turns.specs.Turn.{holding, ending-after, ended, service}
 use Rattle.turns.proofs.Gathered.{writes-same}
 use Rattle.turns.proofs.Finished.{part-of}
 use Rattle.turns.proofs.Served.{no-length, some-ended, nothing-after, turn-after}
 use Rattle.turns.proofs.serving.trade_or_wait.Needs as need
 
 pub returns-then-to-at : need.returns-then-to-at
+unfolding service
 returns-then-to-at g c =
     let m = g .B·Book .means (c .args .book .now) in
     let rs = take (c .args .counts .requests) (c .args .requests .now) in
@@ -34,6 +35,7 @@ returns-then-to-at g c =
     }
 
 pub returns : need.returns
+unfolding service
 returns g c =
     let m = g .B·Book .means (c .args .book .now) in
     let rs = take (c .args .counts .requests) (c .args .requests .now) in
