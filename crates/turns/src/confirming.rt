@@ -38,7 +38,7 @@ fn trade_and_finish<B: Book>(
     counts: Counts,
     request: Request,
     side: Side,
-    price: Price,
+    limit: Price,
     least: Quantity,
     work: &mut [Eligible],
     reports: &mut [Report],
@@ -51,12 +51,12 @@ fn trade_and_finish<B: Book>(
     requires places { ⌜ at + (B·Book .most + counts .answers + (counts .requests + counts .answers)) ≤ length (now reports) ⌝ }
     requires few { ⌜ length (now reports) ≤ 65536 ⌝ }
     requires ready { ⌜ Ready (B·Book .means (now book) .lot) (request .left .0) (on-offer (holding (B·Book .means (now book)) (take (counts .requests) (now requests)) (take (counts .answers) (now answers))) request side) ⌝ }
-    requires price { ⌜ is-price (price .0) ≡ true ⌝ }
-    ensures written { λ r. ⌜ Writes (now (reports .entry)) (now (reports .exit)) at (r .end) (confirmation (holding (B·Book .means (now (book .entry))) (take (counts .requests) (now (requests .entry))) (take (counts .answers) (now (answers .entry)))) request side (price .0) (least .0)) ⌝ }
-    ensures found { λ r. ⌜ r .found ≡ decision-at (holding (B·Book .means (now (book .entry))) (take (counts .requests) (now (requests .entry))) (take (counts .answers) (now (answers .entry)))) request side (price .0) (least .0) ⌝ }
-    ensures requests { λ r. ⌜ take (r .counts .requests) (now (requests .exit)) ≡ less (confirmation (holding (B·Book .means (now (book .entry))) (take (counts .requests) (now (requests .entry))) (take (counts .answers) (now (answers .entry)))) request side (price .0) (least .0)) (holding (B·Book .means (now (book .entry))) (take (counts .requests) (now (requests .entry))) (take (counts .answers) (now (answers .entry)))) .requests ⌝ }
-    ensures answers { λ r. ⌜ take (r .counts .answers) (now (answers .exit)) ≡ less (confirmation (holding (B·Book .means (now (book .entry))) (take (counts .requests) (now (requests .entry))) (take (counts .answers) (now (answers .entry)))) request side (price .0) (least .0)) (holding (B·Book .means (now (book .entry))) (take (counts .requests) (now (requests .entry))) (take (counts .answers) (now (answers .entry)))) .answers ⌝ }
-    ensures book { λ _. ⌜ BookAfter (B·Book .means (now (book .entry))) (take (counts .requests) (now (requests .entry))) (take (counts .answers) (now (answers .entry))) request (λ s. confirmation s request side (price .0) (least .0)) (B·Book .means (now (book .exit))) ⌝ }
+    requires limit { ⌜ is-price (limit .0) ≡ true ⌝ }
+    ensures written { λ r. ⌜ Writes (now (reports .entry)) (now (reports .exit)) at (r .end) (confirmation (holding (B·Book .means (now (book .entry))) (take (counts .requests) (now (requests .entry))) (take (counts .answers) (now (answers .entry)))) request side (limit .0) (least .0)) ⌝ }
+    ensures found { λ r. ⌜ r .found ≡ decision-at (holding (B·Book .means (now (book .entry))) (take (counts .requests) (now (requests .entry))) (take (counts .answers) (now (answers .entry)))) request side (limit .0) (least .0) ⌝ }
+    ensures requests { λ r. ⌜ take (r .counts .requests) (now (requests .exit)) ≡ less (confirmation (holding (B·Book .means (now (book .entry))) (take (counts .requests) (now (requests .entry))) (take (counts .answers) (now (answers .entry)))) request side (limit .0) (least .0)) (holding (B·Book .means (now (book .entry))) (take (counts .requests) (now (requests .entry))) (take (counts .answers) (now (answers .entry)))) .requests ⌝ }
+    ensures answers { λ r. ⌜ take (r .counts .answers) (now (answers .exit)) ≡ less (confirmation (holding (B·Book .means (now (book .entry))) (take (counts .requests) (now (requests .entry))) (take (counts .answers) (now (answers .entry)))) request side (limit .0) (least .0)) (holding (B·Book .means (now (book .entry))) (take (counts .requests) (now (requests .entry))) (take (counts .answers) (now (answers .entry)))) .answers ⌝ }
+    ensures book { λ _. ⌜ BookAfter (B·Book .means (now (book .entry))) (take (counts .requests) (now (requests .entry))) (take (counts .answers) (now (answers .entry))) request (λ s. confirmation s request side (limit .0) (least .0)) (B·Book .means (now (book .exit))) ⌝ }
     ensures few_requests { λ r. ⌜ r .counts .requests ≤ counts .requests ⌝ }
     ensures few_answers { λ r. ⌜ r .counts .answers ≤ counts .answers ⌝ }
     ensures long_requests { λ _. ⌜ length (now (requests .exit)) ≡ length (now (requests .entry)) ⌝ }
@@ -67,7 +67,7 @@ fn trade_and_finish<B: Book>(
         &answers[..counts.answers],
         request,
         side,
-        price,
+        limit,
         least,
         work,
         reports,
@@ -96,7 +96,7 @@ pub fn confirm<B: Book>(
     request: Request,
     side: Side,
     price: Price,
-    minimum: Quantity,
+    least: Quantity,
     work: &mut [Eligible],
     reports: &mut [Report],
     at: usize,
@@ -109,11 +109,11 @@ pub fn confirm<B: Book>(
     requires few { ⌜ length (now reports) ≤ 65536 ⌝ }
     requires ready { ⌜ Ready (B·Book .means (now book) .lot) (request .left .0) (on-offer (holding (B·Book .means (now book)) (take (counts .requests) (now requests)) (take (counts .answers) (now answers))) request side) ⌝ }
     requires price { ⌜ is-price (price .0) ≡ true ⌝ }
-    ensures written { λ r. ⌜ Writes (now (reports .entry)) (now (reports .exit)) at (r .end) (confirmation (holding (B·Book .means (now (book .entry))) (take (counts .requests) (now (requests .entry))) (take (counts .answers) (now (answers .entry)))) request side (price .0) (minimum .0)) ⌝ }
-    ensures found { λ r. ⌜ r .found ≡ decision-at (holding (B·Book .means (now (book .entry))) (take (counts .requests) (now (requests .entry))) (take (counts .answers) (now (answers .entry)))) request side (price .0) (minimum .0) ⌝ }
-    ensures requests { λ r. ⌜ take (r .counts .requests) (now (requests .exit)) ≡ less (confirmation (holding (B·Book .means (now (book .entry))) (take (counts .requests) (now (requests .entry))) (take (counts .answers) (now (answers .entry)))) request side (price .0) (minimum .0)) (holding (B·Book .means (now (book .entry))) (take (counts .requests) (now (requests .entry))) (take (counts .answers) (now (answers .entry)))) .requests ⌝ }
-    ensures answers { λ r. ⌜ take (r .counts .answers) (now (answers .exit)) ≡ less (confirmation (holding (B·Book .means (now (book .entry))) (take (counts .requests) (now (requests .entry))) (take (counts .answers) (now (answers .entry)))) request side (price .0) (minimum .0)) (holding (B·Book .means (now (book .entry))) (take (counts .requests) (now (requests .entry))) (take (counts .answers) (now (answers .entry)))) .answers ⌝ }
-    ensures book { λ _. ⌜ BookAfter (B·Book .means (now (book .entry))) (take (counts .requests) (now (requests .entry))) (take (counts .answers) (now (answers .entry))) request (λ s. confirmation s request side (price .0) (minimum .0)) (B·Book .means (now (book .exit))) ⌝ }
+    ensures written { λ r. ⌜ Writes (now (reports .entry)) (now (reports .exit)) at (r .end) (confirmation (holding (B·Book .means (now (book .entry))) (take (counts .requests) (now (requests .entry))) (take (counts .answers) (now (answers .entry)))) request side (price .0) (least .0)) ⌝ }
+    ensures found { λ r. ⌜ r .found ≡ decision-at (holding (B·Book .means (now (book .entry))) (take (counts .requests) (now (requests .entry))) (take (counts .answers) (now (answers .entry)))) request side (price .0) (least .0) ⌝ }
+    ensures requests { λ r. ⌜ take (r .counts .requests) (now (requests .exit)) ≡ less (confirmation (holding (B·Book .means (now (book .entry))) (take (counts .requests) (now (requests .entry))) (take (counts .answers) (now (answers .entry)))) request side (price .0) (least .0)) (holding (B·Book .means (now (book .entry))) (take (counts .requests) (now (requests .entry))) (take (counts .answers) (now (answers .entry)))) .requests ⌝ }
+    ensures answers { λ r. ⌜ take (r .counts .answers) (now (answers .exit)) ≡ less (confirmation (holding (B·Book .means (now (book .entry))) (take (counts .requests) (now (requests .entry))) (take (counts .answers) (now (answers .entry)))) request side (price .0) (least .0)) (holding (B·Book .means (now (book .entry))) (take (counts .requests) (now (requests .entry))) (take (counts .answers) (now (answers .entry)))) .answers ⌝ }
+    ensures book { λ _. ⌜ BookAfter (B·Book .means (now (book .entry))) (take (counts .requests) (now (requests .entry))) (take (counts .answers) (now (answers .entry))) request (λ s. confirmation s request side (price .0) (least .0)) (B·Book .means (now (book .exit))) ⌝ }
     ensures few_requests { λ r. ⌜ r .counts .requests ≤ counts .requests ⌝ }
     ensures few_answers { λ r. ⌜ r .counts .answers ≤ counts .answers ⌝ }
     ensures long_requests { λ _. ⌜ length (now (requests .exit)) ≡ length (now (requests .entry)) ⌝ }
@@ -127,7 +127,7 @@ pub fn confirm<B: Book>(
         request,
         side,
         price,
-        minimum,
+        least,
         work,
         reports,
         at,
