@@ -1,12 +1,12 @@
 -- A sound market's trades can be settled, and the end of a request takes nothing from the book.
-use mathlib.Core.Path.{_≡_, refl, sym, ap, ap₂, subst, _∙_}
-use mathlib.Core.List.{List, [], _∷_, _++_, map}
+use mathlib.Core.Path.{_≡_, refl, sym, ap₂, subst, _∙_}
+use mathlib.Core.List.{List, [], _∷_, map}
 use mathlib.Core.Bool.{Bool, true, false, cond, _&&_}
-use mathlib.Core.Logic.{_⊎_, inl, inr}
+use mathlib.Core.Logic.{inl, inr}
 use Prim.Native.Nat.{ℕ, _+_, _-_, _%_, _≤_, _<_, min}
 use native.Mathlib.Omega.{arith}
-use lib.Dec.{eqb, leb}
-use Rattle.std.specs.shelf.Lists.{All, kept-by}
+use lib.Dec.{eqb}
+use Rattle.std.specs.shelf.Lists.{All}
 use Rattle.std.specs.declared.option.Option.{Option}
 use Rattle.std.specs.declared.option.Option.the-variants.{Some}
 use Rattle.std.proofs.shelf.Elements.{all-weaker, all-append, all-map, all-kept-by}
@@ -17,10 +17,10 @@ use Rattle.units.specs.declared.side.Side.the-variants.{Buy, Sell}
 use Rattle.units.specs.declared.Quantity.{Quantity}
 use Rattle.units.specs.declared.Money.{Money}
 use Rattle.units.specs.Sides.{other}
-use Rattle.units.specs.Ranges.{within, is-whole, is-number, is-member, is-price, is-quantity, is-lot}
+use Rattle.units.specs.Ranges.{within, is-whole, is-number, is-member, is-price, is-quantity}
 use Rattle.ranked.proofs.Placing.{ranked-shuffled}
 use Rattle.book.specs.declared.Offer.{Offer}
-use Rattle.book.specs.Meaning.{Meaning, side-of, in-range}
+use Rattle.book.specs.Meaning.{side-of, in-range}
 use Rattle.book.specs.Laws.{all-in-range}
 use Rattle.book.proofs.Ranges.{range-parts, within-parts}
 use Rattle.draw.specs.declared.offers.Eligible.{Eligible}

@@ -1,12 +1,12 @@
 -- A loop that lessens a table in place.
-use mathlib.Core.Path.{_≡_, refl, sym, ap, ap₂, subst, _∙_}
-use mathlib.Core.List.{List, [], _∷_, _++_, append-assoc, append-nil}
-use mathlib.Core.Bool.{Bool, true, false, cond}
-use Prim.Native.Nat.{ℕ, zero, suc, _+_, _-_, _≤_, _<_}
+use mathlib.Core.Path.{_≡_, refl, sym, ap, subst, _∙_}
+use mathlib.Core.List.{List, [], _∷_, _++_, append-nil}
+use mathlib.Core.Bool.{cond}
+use Prim.Native.Nat.{ℕ, _+_, _-_, _≤_, _<_}
 use native.Mathlib.Omega.{arith}
 use lib.Dec.{ltb}
 use lib.ListN.{length, getD, drop, take, set, length-set}
-use Rattle.std.proofs.shelf.Lists.{take-more, take-all, take-more-set, drop-set-lt, drop-drop, getD-drop, drop-more, getD-default}
+use Rattle.std.proofs.shelf.Lists.{take-more, take-more-set, drop-set-lt, drop-drop, drop-more}
 use Rattle.std.proofs.shelf.Tests.{cond-true, cond-false, lt-ltb, le-ltb}
 use Rattle.rules.specs.declared.reports.Report.{Report}
 use Rattle.rules.specs.State.{Kept}
@@ -68,9 +68,6 @@ module _ {X : Type 0} (w : Kept X) (rs : List Report) (xs ys : List X) (k i : �
 pub lessening-start : {X : Type 0} (w : Kept X) (rs : List Report) (xs : List X) → Lessening w rs xs xs 0 0
 unfolding remain
 lessening-start w rs xs = record { front = refl; behind = refl; few = omega arith; long = refl }
-
-pub lessening-all : {X : Type 0} {w : Kept X} {rs : List Report} {xs ys : List X} {k i : ℕ} → Lessening w rs xs ys k i → length xs ≤ i → take k ys ≡ remain w rs xs
-lessening-all {X} {w} {rs} {xs} {ys} {k} {i} t l = t .front ∙ ap (remain w rs) (take-all i xs l)
 
 pub lessening-at : {X : Type 0} {w : Kept X} {rs : List Report} {xs ys zs : List X} {k j i : ℕ} → zs ≡ ys → j ≡ k → Lessening w rs xs ys k i → Lessening w rs xs zs j i
 lessening-at {X} {w} {rs} {xs} {ys} {zs} {k} {j} {i} e f t = subst (λ (v : List X). Lessening w rs xs v j i) (sym e) (subst (λ (n : ℕ). Lessening w rs xs ys n i) (sym f) t)

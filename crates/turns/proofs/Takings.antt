@@ -7,10 +7,9 @@ use native.Mathlib.Omega.{arith}
 use lib.Dec.{eqb, leb, ltb}
 use Rattle.std.specs.shelf.Lists.{All}
 use Rattle.std.proofs.shelf.Elements.{all-weaker}
-use Rattle.std.proofs.shelf.Tests.{cond-true, cond-false, eq-eqb, eqb-true, eqb-false, ltb-true, le-leb, and-from, and-parts, not-true}
+use Rattle.std.proofs.shelf.Tests.{cond-true, eq-eqb, eqb-true, eqb-false, ltb-true, le-leb, and-from, and-parts, not-true}
 use Rattle.units.specs.declared.side.Side.{Side}
 use Rattle.units.specs.declared.side.Side.the-variants.{Buy, Sell}
-use Rattle.units.specs.Sides.{other}
 use Rattle.units.specs.Ranges.{within, is-whole}
 use Rattle.book.specs.declared.Offer.{Offer}
 use Rattle.book.specs.Meaning.{Meaning, side-of, with-side, has, left-of, taken, lots, can-take, after-take, in-range}
@@ -26,7 +25,7 @@ use Rattle.rules.specs.Takes.{Listed, Without}
 use Rattle.rules.proofs.Books.{book-does}
 use Rattle.rules.proofs.Left.{remain-same}
 use Rattle.rules.proofs.Fine.{offer-laws}
-use Rattle.turns.specs.Settled.{after-report, settled, book-less, Drawn, Settles}
+use Rattle.turns.specs.Settled.{settled, book-less, Drawn, Settles}
 
 -- ── what reports leave of a list ──
 

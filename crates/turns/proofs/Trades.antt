@@ -12,7 +12,6 @@ use Rattle.units.specs.declared.Money.{Money}
 use Rattle.book.specs.Meaning.{Meaning}
 use Rattle.draw.specs.declared.offers.Eligible.{Eligible}
 use Rattle.draw.specs.declared.offers.Taker.{Taker}
-use Rattle.draw.specs.declared.fills.Fill.{Fill}
 use Rattle.draw.specs.Offers.{eligible}
 use Rattle.draw.specs.Walk.{decided}
 use Rattle.draw.specs.Decisions as decisions
@@ -21,8 +20,7 @@ use Rattle.rules.specs.declared.records.Answer.{Answer}
 use Rattle.rules.specs.declared.records.Request.{Request}
 use Rattle.rules.specs.Reports.{filled-by}
 use Rattle.rules.specs.Offers.{offered, taker-of, request-ranking, firms}
-use Rattle.rules.specs.Step.{on-offer, ranked-for, trade, decision-at, decision-in-turn}
-use Rattle.rules.specs.declared.reports.Report.{Report}
+use Rattle.rules.specs.Step.{on-offer, trade, decision-at, decision-in-turn}
 use Rattle.turns.specs.Turn.{holding}
 
 -- the ranking does not matter where nothing is found

@@ -1,6 +1,6 @@
 -- Tables of requests and answers in the order of their numbers.
 use mathlib.Core.List.{List, [], _∷_}
-use Prim.Native.Nat.{ℕ, _<_}
+use Prim.Native.Nat.{_<_}
 use Rattle.std.specs.shelf.Lists.{All}
 use Rattle.rules.specs.State.{Kept}
 

@@ -1,5 +1,4 @@
 // Answers, as records of a table.
-ghost use mathlib.Core.Path.{_≡_};
 ghost use lib.Dec.{eqb};
 ghost use Rattle.rules.specs.State.{an-answer};
 use super::tables::Standing;

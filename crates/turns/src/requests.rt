@@ -1,5 +1,4 @@
 // Requests, as records of a table.
-ghost use mathlib.Core.Path.{_≡_};
 ghost use lib.Dec.{eqb};
 ghost use Rattle.rules.specs.State.{a-request};
 use super::tables::Standing;

@@ -1,4 +1,4 @@
-use mathlib.Core.Path.{sym, ap, subst, _∙_}
+use mathlib.Core.Path.{sym, subst}
 use Rattle.units.specs.declared.side.Side.{Side}
 use Rattle.turns.specs.Settled.{Settles}
 use Rattle.turns.specs.Turn.{part}

@@ -1,5 +1,5 @@
-use mathlib.Core.Path.{sym, ap, refl, _∙_}
-use mathlib.Core.List.{map, _++_, _∷_, []}
+use mathlib.Core.Path.{ap}
+use mathlib.Core.List.{map}
 use native.Mathlib.Omega.{arith}
 use lib.ListN.{take}
 use Rattle.std.proofs.shelf.Lists.{take-all, take-more}

@@ -1,5 +1,3 @@
-use mathlib.Core.Path.{sym, ap, _∙_}
-use mathlib.Core.List.{List}
 use native.Mathlib.Omega.{arith}
 use Rattle.ranked.proofs.Writing.{writes-none, writes-as, writes-more}
 use Rattle.turns.proofs.Gathered.{one-admitted}

@@ -3,11 +3,9 @@ use mathlib.Core.List.{List, []}
 use native.Mathlib.Omega.{arith}
 use lib.ListN.{length, take}
 use Rattle.ranked.proofs.Writing.{writes-as, writes-then}
-use Rattle.rules.specs.State.{an-answer, a-request}
-use Rattle.rules.specs.Reports.{remain}
 use Rattle.rules.specs.Step.{trade, with-end-if, decision-in-turn}
 use Rattle.rules.specs.declared.reports.Report.{Report}
-use Rattle.turns.specs.Turn.{holding, ending-after, ended, service}
+use Rattle.turns.specs.Turn.{holding, ending-after, service}
 use Rattle.turns.proofs.Gathered.{writes-same}
 use Rattle.turns.proofs.Finished.{part-of}
 use Rattle.turns.proofs.Served.{no-length, some-ended, nothing-after, turn-after}

@@ -1,8 +1,8 @@
 use mathlib.Core.Path.{ap, _∙_}
-use Prim.Native.Nat.{_≤_, _<_}
+use Prim.Native.Nat.{_<_}
 use native.Mathlib.Omega.{arith}
-use lib.ListN.{length, set, take, drop}
-use Rattle.turns.proofs.Lessening.{Lessening, lessening-start, lessening-none, lessening-some, lessening-upto, lessening-at}
+use lib.ListN.{length, set}
+use Rattle.turns.proofs.Lessening.{lessening-start, lessening-none, lessening-some, lessening-upto, lessening-at}
 use Rattle.turns.proofs.tables.lessen_each.Needs as need
 use Rattle.turns.proofs.tables.lessen_each.Needs.{then-rest-gt0, else-rest-gt0}
 
