@@ -1,0 +1,4 @@
+pub mod Settled
+pub mod Tables
+pub mod Turn
+pub mod Follows
