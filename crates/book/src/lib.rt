@@ -1,4 +1,6 @@
 // Offers of one instrument, and what every kind of book of them promises.
+#![tactic(auto)]
+
 ghost use Rattle.std.specs.Prelude.{◌≡◌, ℕ, ◌≤◌, length};
 ghost use Rattle.book.specs.Meaning.{Meaning, in_range, lots, side_of, at_place, take_result, after_take, enter_result, after_enter, remove_result, after_remove};
 ghost use Rattle.book.specs.Laws.{Sound};

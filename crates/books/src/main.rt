@@ -1,4 +1,6 @@
 // The same calls on a book of each kind, told in words.
+#![tactic(auto)]
+
 ghost use Rattle.std.specs.Prelude.{◌≡◌, true, is_ok};
 
 use book::{Book, MakeError, Offer, OpenBook, Refused};

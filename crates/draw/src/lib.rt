@@ -1,4 +1,6 @@
 // What a request may draw on, in which order, and the draw that trades.
+#![tactic(auto)]
+
 mod decisions;
 mod examples;
 mod fills;

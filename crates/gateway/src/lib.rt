@@ -1,5 +1,7 @@
 // The gateway: messages of members as frames of 32 bytes. It cuts a file into frames, reads a frame as a message that
 // borrows its reference, or says by a fault why it is refused, and writes the frame of a message.
+#![tactic(auto)]
+
 mod cutting;
 mod faults;
 mod messages;

@@ -1,4 +1,6 @@
 // The open book that stores its offers, at most 128 a side.
+#![tactic(auto)]
+
 ghost use Rattle.std.specs.Prelude.{◌≡◌, true};
 ghost use Rattle.book.specs.Meaning.{meaning_of};
 ghost use Rattle.book.specs.Laws.{sound};

@@ -1,4 +1,6 @@
 // The book of a formula: at most 64 rungs a side, of one quantity, a step apart; it takes no new orders.
+#![tactic(auto)]
+
 ghost use Rattle.std.specs.Prelude.{◌≡◌, true};
 ghost use Rattle.book.specs.Meaning.{meaning_of};
 ghost use Rattle.book.specs.Laws.{sound};

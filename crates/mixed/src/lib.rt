@@ -1,4 +1,6 @@
 // The open book with a ladder in front: stored orders stand behind its rungs, 128 offers a side in all.
+#![tactic(auto)]
+
 ghost use Rattle.std.specs.Prelude.{◌≡◌, true};
 ghost use Rattle.book.specs.Laws.{sound};
 ghost use Rattle.kept.specs.Kept.{kept_means};

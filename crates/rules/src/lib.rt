@@ -1,4 +1,6 @@
 // The rules of the market: what it holds and reports as plain data, what each message does to it (specs/), and the law that every run of it keeps.
+#![tactic(auto)]
+
 mod records;
 mod reports;
 mod theorems;

@@ -1,5 +1,7 @@
 // Reads a recorded stream of frames from standard input and tells, in a line for each frame or short rest, what it says
 // or why it is refused. It reads as for an open book, so that all seven kinds are there.
+#![tactic(auto)]
+
 ghost use Rattle.std.specs.Prelude.{◌+◌, ◌<◌, ◌≤◌, length, IfOk};
 
 mod lines;

@@ -1,4 +1,6 @@
 // The parts of one turn, over a book of any kind: what a request may draw on, what fills take from the book, what reports leave of the tables, and the end of a request.
+#![tactic(auto)]
+
 mod answers;
 mod confirming;
 mod ending;

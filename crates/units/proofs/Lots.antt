@@ -1,5 +1,5 @@
 -- The lot check says yes exactly to the multiples of the lot.
-use Rattle.std.proofs.Common.{◌≡◌, ℕ, ◌+◌, ◌*◌, ◌/◌, ◌%◌, true, eqb, sym, ap, ◌∙◌, arith}
+use Rattle.std.proofs.Common.{◌≡◌, ℕ, ◌*◌, ◌/◌, ◌%◌, true, eqb, sym, ap, ◌∙◌, arith}
 use native.Mathlib.Nat.{mod-zero, mul-mod_left, mod-add-div'}
 use Rattle.std.proofs.lemmas.Bool.{eq-eqb, eqb-true}
 use Rattle.units.specs.Ranges.{is_whole, WholeMeansMultiple}

@@ -1,6 +1,8 @@
 // The units of the market, each a type of its own, so that a price is never taken for a quantity, nor a firm for a number.
 // A struct holds any value that its field of a message can hold: ranges are checked (ranges.rt), never built in,
 // so that a message out of range can be expressed and refused.
+#![tactic(auto)]
+
 mod orders;
 mod ranges;
 mod refusal;
