@@ -18,11 +18,11 @@ returns-then-rest-eq0 g c =
 
 pub loop-o-preserved : goal.loop-o-preserved
 loop-o-preserved g c =
-    let f = fills_more c.args.offers.now c.loop-o.o-index nothing c.loop-o.rest.0 c.fill-of-fill.result _ c.loop-o-test.true (omega arith) c.fill-of-fill.ensures refl in
+    let f = fills_more c.args.offers.now c.loop-o.o-index nothing c.loop-o.rest.0 c.fill_of-fill.result _ c.loop-o-test.true (omega arith) c.fill_of-fill.ensures refl in
     let l : c.loop-o.count < length c.loop-o.out = omega arith in (
       _,
       writes_more _ c.loop-o.invariant.1 l,
-      one_written (g.W.TellsFill.tells c.args.taker.0) c.loop-o.invariant.0 _ _ _ _ _ f c.of-fill.ensures c.loop-o.invariant.2,
+      one_written (g.W.TellsFill.tells c.args.taker.0) c.loop-o.invariant.0 _ _ _ _ _ f c.of_fill.ensures c.loop-o.invariant.2,
       omega arith,
     )
 

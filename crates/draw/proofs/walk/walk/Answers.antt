@@ -18,7 +18,7 @@ part-requires c =
     let p = turn_part c.args.side c.args.lot.0 c.args.price.0 c.args.most.0 c.args.offers.now c.loop-o.o-index nothing c.loop-o.totals.0.0 c.loop-o.totals.1.0 _ _ _ c.loop-o-test.true
     c.room.ensures c.with-all.ensures.size c.with-all.ensures.money
     (omega (arith, lot_bounds c.args.lot.0 c.requires.lot)) (price_at _ c.args.offers.now c.loop-o.o-index nothing c.loop-o-test.true c.requires.offers)
-    c.loop-o.invariant.1 b.1 c.loop-o.invariant.2 c.loop-o.invariant.3 c.if-not-is-within.ensures in
+    c.loop-o.invariant.1 b.1 c.loop-o.invariant.2 c.loop-o.invariant.3 c.if-not-is_within.ensures in
     record { worse = p.0; fits = omega (arith, p.1) }
 
 pub with-requires : goal.with-requires
@@ -27,13 +27,13 @@ with-requires c =
     let p = (turn_part c.args.side c.args.lot.0 c.args.price.0 c.args.most.0 c.args.offers.now c.loop-o.o-index nothing c.loop-o.totals.0.0 c.loop-o.totals.1.0 _ _ _ c.loop-o-test.true
     c.room.ensures c.with-all.ensures.size c.with-all.ensures.money
     (omega (arith, lot_bounds c.args.lot.0 c.requires.lot)) (price_at _ c.args.offers.now c.loop-o.o-index nothing c.loop-o-test.true c.requires.offers)
-    c.loop-o.invariant.1 b.1 c.loop-o.invariant.2 c.loop-o.invariant.3 c.if-not-is-within.ensures).2 c.part.result.0 c.part.ensures in
+    c.loop-o.invariant.1 b.1 c.loop-o.invariant.2 c.loop-o.invariant.3 c.if-not-is_within.ensures).2 c.part.result.0 c.part.ensures in
     record { size = omega (arith, p.0); money = omega (arith, p.1) }
 
-pub returns-then-not-is-within : goal.returns-then-not-is-within
-returns-then-not-is-within c =
+pub returns-then-not-is_within : goal.returns-then-not-is_within
+returns-then-not-is_within c =
     let e = turn_stop c.args.side c.args.lot.0 c.args.price.0 c.args.most.0 c.args.offers.now c.loop-o.o-index nothing c.loop-o.totals.0.0 c.loop-o.totals.1.0 _ _ _ c.loop-o-test.true
-    c.room.ensures c.with-all.ensures.size c.with-all.ensures.money c.if-not-is-within.ensures
+    c.room.ensures c.with-all.ensures.size c.with-all.ensures.money c.if-not-is_within.ensures
     c.part.result.0 c.with.result.0.0 c.with.result.1.0 c.part.ensures c.with.ensures.size c.with.ensures.money in
     let i = c.loop-o.invariant.0 in
     record { size = e.0 ∙ ap (λ w. w.0) i; money = e.1 ∙ ap (λ w. w.1) i }
@@ -45,10 +45,10 @@ loop-o-preserved c =
     let b = quantity_bounds c.args.lot.0 c.args.most.0 c.requires.most in
     let g = grown o.price.0 c.room.result.0 c.loop-o.totals.0.0 c.loop-o.totals.1.0 c.args.most.0 h (omega arith) (omega arith) c.loop-o.invariant.2 in (
       turn_more c.args.side c.args.lot.0 c.args.price.0 c.args.most.0 c.args.offers.now c.loop-o.o-index nothing c.loop-o.totals.0.0 c.loop-o.totals.1.0 _ _ _ c.loop-o-test.true
-          c.room.ensures c.with-all.ensures.size c.with-all.ensures.money c.if-not-is-within.ensures ∙ c.loop-o.invariant.0,
+          c.room.ensures c.with-all.ensures.size c.with-all.ensures.money c.if-not-is_within.ensures ∙ c.loop-o.invariant.0,
       omega arith,
       omega arith,
-      test_true c.args.side c.with-all.result.1.0 (c.args.price.0 * c.with-all.result.0.0) (sym c.if-not-is-within.ensures),
+      test_true c.args.side c.with-all.result.1.0 (c.args.price.0 * c.with-all.result.0.0) (sym c.if-not-is_within.ensures),
     )
 
 pub returns : goal.returns

@@ -5,4 +5,4 @@ use Rattle.gateway.proofs.writing.put.Goals as goal
 
 pub returns : goal.returns
 returns c =
-    writes_over (plain c.args.w.now) c.copy-from-slice.new.self c.copy-from-slice-2.new.self c.args.out.now (search rules) (search rules) (search rules) (search rules)
+    writes_over (plain c.args.w.now) c.copy_from_slice.new.self c.copy_from_slice-2.new.self c.args.out.now (search rules) (search rules) (search rules) (search rules)

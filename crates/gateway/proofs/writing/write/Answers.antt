@@ -9,7 +9,7 @@ returns g c =
       result = search rules;
       after = search rules;
       rereads =
-          λ place h. reread_written _ g.O.Orders.taken g.met.O.Orders.permitted place c.args.m.now (plain c.lay-out-w.result) _ c.put.ensures c.lay-out-w.ensures
+          λ place h. reread_written _ g.O.Orders.taken g.met.O.Orders.permitted place c.args.m.now (plain c.lay_out-w.result) _ c.put.ensures c.lay_out-w.ensures
           record {
             number = search rules;
             price = search rules;

@@ -3,8 +3,8 @@ use Rattle.kept.specs.Kept.{kept_means}
 use Rattle.book.proofs.Sound.{sound_removed}
 use Rattle.kept.proofs.KeptBook.remove_offer.Goals as goal
 
-pub invariant-of-self : goal.invariant-of-self
-invariant-of-self c = let b = c.args.self.now in (sound_removed 128 (kept_means b) Buy c.args.number.0 _ b.ok c.remove.ensures.after, tt)
+pub invariant_of-self : goal.invariant_of-self
+invariant_of-self c = let b = c.args.self.now in (sound_removed 128 (kept_means b) Buy c.args.number.0 _ b.ok c.remove.ensures.after, tt)
 
-pub invariant-of-self-in-Sell : goal.invariant-of-self-in-Sell
-invariant-of-self-in-Sell c = let b = c.args.self.now in (sound_removed 128 (kept_means b) Sell c.args.number.0 _ b.ok c.remove-in-Sell.ensures.after, tt)
+pub invariant_of-self-in-Sell : goal.invariant_of-self-in-Sell
+invariant_of-self-in-Sell c = let b = c.args.self.now in (sound_removed 128 (kept_means b) Sell c.args.number.0 _ b.ok c.remove-in-Sell.ensures.after, tt)

@@ -8,14 +8,14 @@ use Rattle.kept.specs.Kept.{kept_means}
 use Rattle.book.proofs.Sound.{sound_entered}
 use Rattle.kept.proofs.KeptBook.store.Goals as goal
 
-pub invariant-of-self : goal.invariant-of-self
-invariant-of-self c =
+pub invariant_of-self : goal.invariant_of-self
+invariant_of-self c =
     let b = c.args.self.now in
     let t : can_enter 128 (kept_means b) Buy c.args.offer ≡ true = ap (λ (z : Side). can_enter 128 (kept_means b) z c.args.offer) (sym c.in-Buy.is) ∙ c.requires in
     (ap (λ (os : List Offer). sound 128 (with_side (kept_means b) Buy os)) c.push.ensures ∙ sound_entered 128 (kept_means b) Buy c.args.offer b.ok t, tt)
 
-pub invariant-of-self-in-Sell : goal.invariant-of-self-in-Sell
-invariant-of-self-in-Sell c =
+pub invariant_of-self-in-Sell : goal.invariant_of-self-in-Sell
+invariant_of-self-in-Sell c =
     let b = c.args.self.now in
     let t : can_enter 128 (kept_means b) Sell c.args.offer ≡ true = ap (λ (z : Side). can_enter 128 (kept_means b) z c.args.offer) (sym c.in-Sell.is) ∙ c.requires in
     (ap (λ (os : List Offer). sound 128 (with_side (kept_means b) Sell os)) c.push-in-Sell.ensures ∙ sound_entered 128 (kept_means b) Sell c.args.offer b.ok t, tt)

@@ -8,8 +8,8 @@ use Rattle.ladder.specs.Rails.{rail_offers}
 use Rattle.ladder.proofs.Raising.{sound_raised}
 use Rattle.ladder.proofs.Ladder.raise.Goals as goal
 
-pub invariant-of-result : goal.invariant-of-result
-invariant-of-result c =
+pub invariant_of-result : goal.invariant_of-result
+invariant_of-result c =
     let lot = c.args.lot.0 in
     let buys = ap (λ (os : List Offer). sound 64 (meaning_of os (rail_offers c.raise-2.result) lot)) c.raise.ensures in
     let sells = ap (λ (os : List Offer). sound 64 (meaning_of (rungs_of Buy c.args.buys) os lot)) c.raise-2.ensures in

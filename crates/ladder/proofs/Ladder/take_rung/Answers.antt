@@ -3,8 +3,8 @@ use Rattle.ladder.specs.Ladders.{ladder_means}
 use Rattle.book.proofs.Sound.{sound_took}
 use Rattle.ladder.proofs.Ladder.take_rung.Goals as goal
 
-pub invariant-of-self : goal.invariant-of-self
-invariant-of-self c = let b = c.args.self.now in (sound_took 64 (ladder_means b) Buy c.args.number.0 c.args.amount.0 _ b.ok c.take.ensures.after, tt)
+pub invariant_of-self : goal.invariant_of-self
+invariant_of-self c = let b = c.args.self.now in (sound_took 64 (ladder_means b) Buy c.args.number.0 c.args.amount.0 _ b.ok c.take.ensures.after, tt)
 
-pub invariant-of-self-in-Sell : goal.invariant-of-self-in-Sell
-invariant-of-self-in-Sell c = let b = c.args.self.now in (sound_took 64 (ladder_means b) Sell c.args.number.0 c.args.amount.0 _ b.ok c.take-in-Sell.ensures.after, tt)
+pub invariant_of-self-in-Sell : goal.invariant_of-self-in-Sell
+invariant_of-self-in-Sell c = let b = c.args.self.now in (sound_took 64 (ladder_means b) Sell c.args.number.0 c.args.amount.0 _ b.ok c.take-in-Sell.ensures.after, tt)

@@ -21,8 +21,8 @@ returns-then-has c =
     let f = enter_known (ladder_means b.rungs) (kept_means b.orders) b.lots b.ok c.args.side c.args.offer (sym c.if-has.ensures) in
     record { result = refuses _ f; after = stays _ _ _ f }
 
-pub invariant-of-self : goal.invariant-of-self
-invariant-of-self c =
+pub invariant_of-self : goal.invariant_of-self
+invariant_of-self c =
     let b = c.args.self.now in
     let m = ladder_means b.rungs in
     let n = kept_means b.orders in

@@ -15,8 +15,8 @@ returns-in-Err c =
     let e = c.in-Err.ensures.value in
     record { value = e; cases = made_err (ladder_refused c.args.lot.0 c.args.buys c.args.sells) (ladder_of c.args.lot.0 c.args.buys c.args.sells) c.in-Err.fault e; ends = c.in-Err.ensures.ends }
 
-pub invariant-of-result : goal.invariant-of-result
-invariant-of-result c =
+pub invariant_of-result : goal.invariant_of-result
+invariant_of-result c =
     let m = ladder_means c.in-Ok.rungs in
     let n = kept_means c.in-Ok-new.orders in
     let p = made_ok (ladder_refused c.args.lot.0 c.args.buys c.args.sells) (ladder_of c.args.lot.0 c.args.buys c.args.sells) m c.in-Ok.ensures.value in

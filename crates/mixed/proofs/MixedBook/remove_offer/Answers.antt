@@ -19,35 +19,35 @@ module _ (m : Meaning) (h : sound 64 m ≡ true) (s : Side) (n l : ℕ) (is : l 
   after : (m' : Meaning) → m' ≡ after_take m s n l → m' ≡ after_remove m s n
   after m' e = e ∙ ap (after_take m s n) is ∙ (take_whole 64 m s n h).1
 
-pub invariant-of-self : goal.invariant-of-self
-invariant-of-self c =
+pub invariant_of-self : goal.invariant_of-self
+invariant_of-self c =
     let b = c.args.self.now in
     let m = ladder_means b.rungs in
     let n = kept_means b.orders in
     let l = c.left-left.result.0 in
-    let t = sym (can m b.rungs.ok c.args.side c.args.number.0 l c.left-left.ensures) ∙ ok_tells (can_take m c.args.side c.args.number.0 l) true c.take.result c.take.ensures.result c.if-is-ok.ensures.value in
+    let t = sym (can m b.rungs.ok c.args.side c.args.number.0 l c.left-left.ensures) ∙ ok_tells (can_take m c.args.side c.args.number.0 l) true c.take.result c.take.ensures.result c.if-is_ok.ensures.value in
     let e = after m b.rungs.ok c.args.side c.args.number.0 l c.left-left.ensures (ladder_means c.take.new.self) c.take.ensures.after in
     let w = remove_front m n b.lots b.ok c.args.side c.args.number.0 (ladder_means c.take.new.self) t e in
     (ap (λ (z : Meaning). z.lot) e ∙ lot_after_remove m c.args.side c.args.number.0 ∙ b.lots, (ap (sound 128) w.1 ∙ sound_after_remove 128 (joined m n) c.args.side c.args.number.0 b.ok, tt))
 
-pub returns-then-is-ok : goal.returns-then-is-ok
-returns-then-is-ok c =
+pub returns-then-is_ok : goal.returns-then-is_ok
+returns-then-is_ok c =
     let b = c.args.self.now in
     let m = ladder_means b.rungs in
     let n = kept_means b.orders in
     let l = c.left-left.result.0 in
-    let t = sym (can m b.rungs.ok c.args.side c.args.number.0 l c.left-left.ensures) ∙ ok_tells (can_take m c.args.side c.args.number.0 l) true c.take.result c.take.ensures.result c.if-is-ok.ensures.value in
+    let t = sym (can m b.rungs.ok c.args.side c.args.number.0 l c.left-left.ensures) ∙ ok_tells (can_take m c.args.side c.args.number.0 l) true c.take.result c.take.ensures.result c.if-is_ok.ensures.value in
     let e = after m b.rungs.ok c.args.side c.args.number.0 l c.left-left.ensures (ladder_means c.take.new.self) c.take.ensures.after in
     let w = remove_front m n b.lots b.ok c.args.side c.args.number.0 (ladder_means c.take.new.self) t e in
     record { result = accepts _ w.0; after = w.1 }
 
-pub invariant-of-self-2 : goal.invariant-of-self-2
-invariant-of-self-2 c =
+pub invariant_of-self-2 : goal.invariant_of-self-2
+invariant_of-self-2 c =
     let b = c.args.self.now in
     let m = ladder_means b.rungs in
     let n = kept_means b.orders in
     let l = c.left-left.result.0 in
-    let t = sym (can m b.rungs.ok c.args.side c.args.number.0 l c.left-left.ensures) ∙ ok_tells (can_take m c.args.side c.args.number.0 l) false c.take.result c.take.ensures.result c.if-is-ok.ensures.value in
+    let t = sym (can m b.rungs.ok c.args.side c.args.number.0 l c.left-left.ensures) ∙ ok_tells (can_take m c.args.side c.args.number.0 l) false c.take.result c.take.ensures.result c.if-is_ok.ensures.value in
     let e = after m b.rungs.ok c.args.side c.args.number.0 l c.left-left.ensures (ladder_means c.take.new.self) c.take.ensures.after in
     let w = remove_back m n b.lots b.ok c.args.side c.args.number.0 (ladder_means c.take.new.self) (kept_means c.remove.new.self) t e c.remove.ensures.after in (
       ap (λ (z : Meaning). z.lot) e ∙ lot_after_remove m c.args.side c.args.number.0 ∙ b.lots ∙ sym (ap (λ (z : Meaning). z.lot) c.remove.ensures.after ∙ lot_after_remove n c.args.side c.args.number.0),
@@ -60,7 +60,7 @@ returns c =
     let m = ladder_means b.rungs in
     let n = kept_means b.orders in
     let l = c.left-left.result.0 in
-    let t = sym (can m b.rungs.ok c.args.side c.args.number.0 l c.left-left.ensures) ∙ ok_tells (can_take m c.args.side c.args.number.0 l) false c.take.result c.take.ensures.result c.if-is-ok.ensures.value in
+    let t = sym (can m b.rungs.ok c.args.side c.args.number.0 l c.left-left.ensures) ∙ ok_tells (can_take m c.args.side c.args.number.0 l) false c.take.result c.take.ensures.result c.if-is_ok.ensures.value in
     let e = after m b.rungs.ok c.args.side c.args.number.0 l c.left-left.ensures (ladder_means c.take.new.self) c.take.ensures.after in
     let w = remove_back m n b.lots b.ok c.args.side c.args.number.0 (ladder_means c.take.new.self) (kept_means c.remove.new.self) t e c.remove.ensures.after in
     record { result = c.remove.ensures.result ∙ ap when (sym w.0); after = w.1 }

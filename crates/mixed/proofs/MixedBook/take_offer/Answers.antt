@@ -9,30 +9,30 @@ use Rattle.book.proofs.Sound.{sound_after_take}
 use Rattle.mixed.proofs.Joining.{lot_after_take, take_front, take_back}
 use Rattle.mixed.proofs.MixedBook.take_offer.Goals as goal
 
-pub invariant-of-self : goal.invariant-of-self
-invariant-of-self c =
+pub invariant_of-self : goal.invariant_of-self
+invariant_of-self c =
     let b = c.args.self.now in
     let m = ladder_means b.rungs in
     let n = kept_means b.orders in
-    let t = ok_tells (can_take m c.args.side c.args.number.0 c.args.amount.0) true c.take.result c.take.ensures.result c.if-is-ok.ensures.value in
+    let t = ok_tells (can_take m c.args.side c.args.number.0 c.args.amount.0) true c.take.result c.take.ensures.result c.if-is_ok.ensures.value in
     let w = take_front m n b.lots b.ok c.args.side c.args.number.0 c.args.amount.0 (ladder_means c.take.new.self) t c.take.ensures.after in
     (ap (λ (z : Meaning). z.lot) c.take.ensures.after ∙ lot_after_take m c.args.side c.args.number.0 c.args.amount.0 ∙ b.lots, (ap (sound 128) w.1 ∙ sound_after_take 128 (joined m n) c.args.side c.args.number.0 c.args.amount.0 b.ok, tt))
 
-pub returns-then-is-ok : goal.returns-then-is-ok
-returns-then-is-ok c =
+pub returns-then-is_ok : goal.returns-then-is_ok
+returns-then-is_ok c =
     let b = c.args.self.now in
     let m = ladder_means b.rungs in
     let n = kept_means b.orders in
-    let t = ok_tells (can_take m c.args.side c.args.number.0 c.args.amount.0) true c.take.result c.take.ensures.result c.if-is-ok.ensures.value in
+    let t = ok_tells (can_take m c.args.side c.args.number.0 c.args.amount.0) true c.take.result c.take.ensures.result c.if-is_ok.ensures.value in
     let w = take_front m n b.lots b.ok c.args.side c.args.number.0 c.args.amount.0 (ladder_means c.take.new.self) t c.take.ensures.after in
     record { result = accepts _ w.0; after = w.1 }
 
-pub invariant-of-self-2 : goal.invariant-of-self-2
-invariant-of-self-2 c =
+pub invariant_of-self-2 : goal.invariant_of-self-2
+invariant_of-self-2 c =
     let b = c.args.self.now in
     let m = ladder_means b.rungs in
     let n = kept_means b.orders in
-    let t = ok_tells (can_take m c.args.side c.args.number.0 c.args.amount.0) false c.take.result c.take.ensures.result c.if-is-ok.ensures.value in
+    let t = ok_tells (can_take m c.args.side c.args.number.0 c.args.amount.0) false c.take.result c.take.ensures.result c.if-is_ok.ensures.value in
     let w = take_back m n b.lots b.ok c.args.side c.args.number.0 c.args.amount.0 (ladder_means c.take.new.self) (kept_means c.take-2.new.self) t c.take.ensures.after c.take-2.ensures.after in (
       ap (λ (z : Meaning). z.lot) c.take.ensures.after ∙ lot_after_take m c.args.side c.args.number.0 c.args.amount.0 ∙ b.lots ∙ sym (ap (λ (z : Meaning). z.lot) c.take-2.ensures.after ∙ lot_after_take n c.args.side c.args.number.0 c.args.amount.0),
       (ap (sound 128) w.1 ∙ sound_after_take 128 (joined m n) c.args.side c.args.number.0 c.args.amount.0 b.ok, tt),
@@ -43,6 +43,6 @@ returns c =
     let b = c.args.self.now in
     let m = ladder_means b.rungs in
     let n = kept_means b.orders in
-    let t = ok_tells (can_take m c.args.side c.args.number.0 c.args.amount.0) false c.take.result c.take.ensures.result c.if-is-ok.ensures.value in
+    let t = ok_tells (can_take m c.args.side c.args.number.0 c.args.amount.0) false c.take.result c.take.ensures.result c.if-is_ok.ensures.value in
     let w = take_back m n b.lots b.ok c.args.side c.args.number.0 c.args.amount.0 (ladder_means c.take.new.self) (kept_means c.take-2.new.self) t c.take.ensures.after c.take-2.ensures.after in
     record { result = c.take-2.ensures.result ∙ ap when (sym w.0); after = w.1 }

@@ -14,15 +14,15 @@ returns g c =
     let rs = take c.args.counts.requests c.args.requests.now in
     let xs = take c.args.counts.answers c.args.answers.now in
     let n = c.args.request.number.0 in
-    let e = part_of c.trade-at-to.ensures.written in
+    let e = part_of c.trade_at-to.ensures.written in
     record {
-      written = writes_then c.trade-at-to.ensures.written (writes_as (ap (λ (v : List Report). ending_after v rs xs n) e) c.finish-end.ensures.written);
-      found = c.trade-at-to.ensures.found;
+      written = writes_then c.trade_at-to.ensures.written (writes_as (ap (λ (v : List Report). ending_after v rs xs n) e) c.finish-end.ensures.written);
+      found = c.trade_at-to.ensures.found;
       requests = c.finish-end.ensures.requests ∙ ap (λ (v : List Report). remain a_request (ended v rs xs n) rs) e;
       answers = c.finish-end.ensures.answers ∙ ap (λ (v : List Report). remain an_answer (ended v rs xs n) xs) e;
       book = book_after c.finish-end.ensures.sound m rs xs c.args.request c.args.side c.args.limit.0 c.args.least.0 _ _ e c.finish-end.ensures.book;
       few_requests = c.finish-end.ensures.few_requests;
       few_answers = c.finish-end.ensures.few_answers;
-      long-requests = c.finish-end.ensures.long-requests;
-      long-answers = c.finish-end.ensures.long-answers;
+      long_requests = c.finish-end.ensures.long_requests;
+      long_answers = c.finish-end.ensures.long_answers;
     }

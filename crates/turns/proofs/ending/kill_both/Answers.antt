@@ -7,8 +7,8 @@ use Rattle.rules.specs.Offers.{under, offered_to}
 use Rattle.turns.proofs.Ordered.{already, kept_rising}
 use Rattle.turns.proofs.ending.kill_both.Goals as goal
 
-pub kill-each-requires : goal.kill-each-requires
-kill-each-requires c = omega (arith, c.kill-each-n.ensures.few, c.kill-each-n.ensures.written.long, c.requires.places)
+pub kill_each-requires : goal.kill_each-requires
+kill_each-requires c = omega (arith, c.kill_each-n.ensures.few, c.kill_each-n.ensures.written.long, c.requires.places)
 
 pub returns : goal.returns
 returns c =
@@ -16,6 +16,6 @@ returns c =
     let n = c.args.number.0 in
     let o = already an_answer (offered_to n xs) (kept_rising an_answer (λ (a : Answer). eqb a.request.0 n) xs c.requires.rising) in
     record {
-      written = writes_as (ap (λ (v : List Answer). kills a_request c.args.reason (under a_request n c.args.requests.now) ++ kills an_answer c.args.its_answers v) (sym o)) (writes_then c.kill-each-n.ensures.written c.kill-each.ensures.written);
-      few = omega (arith, c.kill-each-n.ensures.few, c.kill-each.ensures.few);
+      written = writes_as (ap (λ (v : List Answer). kills a_request c.args.reason (under a_request n c.args.requests.now) ++ kills an_answer c.args.its_answers v) (sym o)) (writes_then c.kill_each-n.ensures.written c.kill_each.ensures.written);
+      few = omega (arith, c.kill_each-n.ensures.few, c.kill_each.ensures.few);
     }

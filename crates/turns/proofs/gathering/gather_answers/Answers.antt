@@ -12,7 +12,7 @@ loop-a-init c = (writes_none c.args.work.now c.args.at (omega arith), omega arit
 pub loop-a-preserved : goal.loop-a-preserved
 loop-a-preserved c =
     let xs = c.args.answers.now in (
-      noted_more c.args.taker from_answer (take c.loop-a.a-index xs) _ _ c.as-offered.result (take_more xs c.loop-a.a-index _ c.loop-a-test.true) c.as-offered.ensures c.loop-a.invariant.0 c.note-n.ensures.written,
+      noted_more c.args.taker from_answer (take c.loop-a.a-index xs) _ _ c.as_offered.result (take_more xs c.loop-a.a-index _ c.loop-a-test.true) c.as_offered.ensures c.loop-a.invariant.0 c.note-n.ensures.written,
       omega (arith, c.note-n.ensures.few, c.loop-a.invariant.1),
     )
 

@@ -6,7 +6,7 @@ use Rattle.rules.specs.Offers.{from_book}
 use Rattle.ranked.proofs.Writing.{writes_none, writes_as}
 use Rattle.turns.proofs.Gathered.{place_more, past, noted_more, writes_same}
 use Rattle.turns.proofs.gathering.gather_side.Goals as goal
-use Rattle.turns.proofs.gathering.gather_side.Goals.{in-Some, in-default}
+use Rattle.turns.proofs.gathering.gather_side.Goals.{in-Some, in_default}
 
 pub loop-i-init : goal.loop-i-init
 loop-i-init g c = (writes_none c.args.work.now 0 (omega arith), omega arith)
@@ -23,7 +23,7 @@ loop-i-preserved g c =
       | in-Some w ↦
           let z = noted_more c.args.taker (from_book c.args.side) (take c.loop-i.i os) (take (c.loop-i.i + 1) os) w.in-Some.o w.in_book.result (place_more os c.loop-i.i w.in-Some.o w.in-Some.ensures) w.in_book.ensures c.loop-i.invariant.0 w.note-n.ensures.written in
           (writes_same w.work-is w.n-is refl z, omega (arith, w.n-is, w.note-n.ensures.few, c.loop-i.invariant.1))
-      | in-default w ↦ let l = past os c.loop-i.i w.in-default.ensures in absurd (omega (arith, c.count-i-end.ensures, c.loop-i-test.true))
+      | in_default w ↦ let l = past os c.loop-i.i w.in_default.ensures in absurd (omega (arith, c.count-i-end.ensures, c.loop-i-test.true))
     ]
 
 pub returns : goal.returns

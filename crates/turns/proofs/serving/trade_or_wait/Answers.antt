@@ -16,17 +16,17 @@ returns-then-to-at g c =
     let xs = take c.args.counts.answers c.args.answers.now in
     let r = c.args.request in
     let s = holding m rs xs in
-    let w = c.trade-in-turn-to.ensures.written in
+    let w = c.trade_in_turn-to.ensures.written in
     let fs = trade s r c.args.side (decision_in_turn s r c.args.side c.args.limit.0 c.args.least.0) in
     let e : fs ≡ [] = no_length fs (omega (arith, w.count, c.if-to-at.true)) in
     record {
       written = writes_same refl (sym c.if-to-at.true) (e ∙ sym (ap (with_end_if s r.number.0) e)) w;
-      found = c.trade-in-turn-to.ensures.found;
+      found = c.trade_in_turn-to.ensures.found;
       after = nothing_after m rs xs r c.args.side c.args.limit.0 c.args.least.0 e;
       few_requests = omega arith;
       few_answers = omega arith;
-      long-requests = refl;
-      long-answers = refl;
+      long_requests = refl;
+      long_answers = refl;
     }
 
 pub returns : goal.returns
@@ -38,17 +38,17 @@ returns g c =
     let r = c.args.request in
     let n = r.number.0 in
     let s = holding m rs xs in
-    let w = c.trade-in-turn-to.ensures.written in
+    let w = c.trade_in_turn-to.ensures.written in
     let fs = trade s r c.args.side (decision_in_turn s r c.args.side c.args.limit.0 c.args.least.0) in
     let e = part_of w in
     let some = λ (z : length fs ≡ 0). c.if-to-at.false (omega (arith, w.count, z)) in
     record {
       written = writes_as (sym (some_ended s n fs some)) (writes_then w (writes_as (ap (λ (v : List Report). ending_after v rs xs n) e) c.finish-end.ensures.written));
-      found = c.trade-in-turn-to.ensures.found;
+      found = c.trade_in_turn-to.ensures.found;
       after = turn_after m rs xs r c.args.side c.args.limit.0 c.args.least.0 c.finish-end.ensures.sound _ _ _ _ e (λ z. some (ap length (sym e) ∙ z))
           c.finish-end.ensures.book c.finish-end.ensures.requests c.finish-end.ensures.answers;
       few_requests = c.finish-end.ensures.few_requests;
       few_answers = c.finish-end.ensures.few_answers;
-      long-requests = c.finish-end.ensures.long-requests;
-      long-answers = c.finish-end.ensures.long-answers;
+      long_requests = c.finish-end.ensures.long_requests;
+      long_answers = c.finish-end.ensures.long_answers;
     }

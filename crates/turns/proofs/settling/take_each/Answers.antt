@@ -7,7 +7,7 @@ use Rattle.turns.proofs.settling.take_each.Goals as goal
 
 pub loop-r-preserved : goal.loop-r-preserved
 loop-r-preserved g c =
-    ap (λ (m : Meaning). settled m c.args.side (drop (c.loop-r.r-index + 1) c.args.fills.now)) c.take-one.ensures
+    ap (λ (m : Meaning). settled m c.args.side (drop (c.loop-r.r-index + 1) c.args.fills.now)) c.take_one.ensures
     ∙ (sym (settled_more (g.B.Book.means c.loop-r.book) c.args.side c.args.fills.now c.loop-r.r-index _ c.loop-r-test.true) ∙ c.loop-r.invariant)
 
 pub returns : goal.returns

@@ -22,10 +22,10 @@ loop-i-preserved g c =
     elim c.if-rest-gt0.branch [
       | then-rest-gt0 w ↦
           lessening_at (w.table-is ∙ ap (set ys c.loop-i.n) w.with_left.ensures) w.n-is
-          (lessening_some k rs xs ys c.loop-i.n c.loop-i.i c.index-table-i.result c.rest-of-rest.result.0 c.loop-i.invariant l c.index-table-i.is c.rest-of-rest.ensures w.if-rest-gt0.true)
+          (lessening_some k rs xs ys c.loop-i.n c.loop-i.i c.index-table-i.result c.rest_of-rest.result.0 c.loop-i.invariant l c.index-table-i.is c.rest_of-rest.ensures w.if-rest-gt0.true)
       | else-rest-gt0 w ↦
           lessening_at w.table-is w.n-is
-          (lessening_none k rs xs ys c.loop-i.n c.loop-i.i c.index-table-i.result c.rest-of-rest.result.0 c.loop-i.invariant l c.index-table-i.is c.rest-of-rest.ensures (omega (arith, w.if-rest-gt0.false)))
+          (lessening_none k rs xs ys c.loop-i.n c.loop-i.i c.index-table-i.result c.rest_of-rest.result.0 c.loop-i.invariant l c.index-table-i.is c.rest_of-rest.ensures (omega (arith, w.if-rest-gt0.false)))
     ]
 
 pub returns : goal.returns

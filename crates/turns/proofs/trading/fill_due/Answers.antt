@@ -12,10 +12,10 @@ returns g c =
     let d = c.args.side in
     let n = c.gather-n.result in
     let os = take n c.gather-n.new.work in
-    let f = found_in_turn m xs r d c.taker_of.result c.lot.result.0 os c.taker_of.ensures c.lot.ensures c.gather-n.ensures.written.front c.decide-automatic-found.result c.args.limit.0 c.args.least.0 c.count-firms-firms.result.0 c.count-firms-firms.ensures.value c.decide-automatic-found.ensures.result.value in
-    let l = length-take n c.decide-automatic-found.new.offers in
+    let f = found_in_turn m xs r d c.taker_of.result c.lot.result.0 os c.taker_of.ensures c.lot.ensures c.gather-n.ensures.written.front c.decide_automatic-found.result c.args.limit.0 c.args.least.0 c.count_firms-firms.result.0 c.count_firms-firms.ensures.value c.decide_automatic-found.ensures.result.value in
+    let l = length-take n c.decide_automatic-found.new.offers in
     record {
-      written = writes_as (fills_are m xs r d c.taker_of.result c.lot.result.0 os c.taker_of.ensures c.lot.ensures c.gather-n.ensures.written.front c.decide-automatic-found.result _ (take n c.decide-automatic-found.new.offers) f c.decide-automatic-found.ensures.found) c.execute.ensures.written;
+      written = writes_as (fills_are m xs r d c.taker_of.result c.lot.result.0 os c.taker_of.ensures c.lot.ensures c.gather-n.ensures.written.front c.decide_automatic-found.result _ (take n c.decide_automatic-found.new.offers) f c.decide_automatic-found.ensures.found) c.execute.ensures.written;
       found = f;
       few = omega (arith, l, c.gather-n.ensures.few, c.execute.ensures.few);
     }

@@ -5,4 +5,4 @@ use Rattle.kept.proofs.table.Table.has.Goals as goal
 pub returns : goal.returns
 returns c =
     let t = c.args.self.now in
-    c.is-some.ensures ∙ ap is_some c.place.ensures ∙ some_has 0 (take t.count t.offers) c.args.number.0
+    c.is_some.ensures ∙ ap is_some c.place.ensures ∙ some_has 0 (take t.count t.offers) c.args.number.0

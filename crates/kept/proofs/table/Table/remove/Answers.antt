@@ -4,14 +4,14 @@ use Rattle.kept.proofs.Places.{placed, unplaced, within, has_it, without_it}
 use Rattle.kept.proofs.Stored.{room, stored_count}
 use Rattle.kept.proofs.table.Table.remove.Goals as goal
 
-pub returns-in-default : goal.returns-in-default
-returns-in-default c =
+pub returns-in_default : goal.returns-in_default
+returns-in_default c =
     let t = c.args.self.now in
-    let f = unplaced (take t.count t.offers) c.args.number.0 c.in-default.ensures in
+    let f = unplaced (take t.count t.offers) c.args.number.0 c.in_default.ensures in
     record { result = refuses _ f; after = stays _ _ _ f }
 
-pub remove-at-requires : goal.remove-at-requires
-remove-at-requires c =
+pub remove_at-requires : goal.remove_at-requires
+remove_at-requires c =
     let t = c.args.self.now in
     let l = stored_count t.offers t.count (room t) in
     omega (arith, l, within (placed (take t.count t.offers) c.args.number.0 c.in-Some.k c.in-Some.ensures))
@@ -20,4 +20,4 @@ pub returns : goal.returns
 returns c =
     let t = c.args.self.now in
     let p = placed (take t.count t.offers) c.args.number.0 c.in-Some.k c.in-Some.ensures in
-    record { result = accepts _ (has_it p); after = goes _ _ _ _ (has_it p) (c.remove-at.ensures ∙ sym (without_it p)) }
+    record { result = accepts _ (has_it p); after = goes _ _ _ _ (has_it p) (c.remove_at.ensures ∙ sym (without_it p)) }

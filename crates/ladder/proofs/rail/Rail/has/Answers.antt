@@ -11,4 +11,4 @@ found r n None e = sym e
 found r n (Some k) e = sym (has_is r.side r.first.0 r.step.0 r.left k n e.1 e.2)
 
 pub returns : goal.returns
-returns c = c.is-some.ensures ∙ found c.args.self.now c.args.number.0 c.rung.result c.rung.ensures
+returns c = c.is_some.ensures ∙ found c.args.self.now c.args.number.0 c.rung.result c.rung.ensures

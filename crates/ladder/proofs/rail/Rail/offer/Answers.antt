@@ -11,7 +11,7 @@ returns-then-skip-eq0 c =
     let r = c.args.self.now in
     let w : c.loop-k.k < length r.left = omega (arith, r.places, c.loop-k-test.true) in
     let S : Offer → Option Offer = λ o. Some o in
-    ap S c.rung-of.ensures ∙ look_found r.side r.first.0 r.step.0 r.left c.loop-k.k c.loop-k.skip w c.if-left-ne0.true c.if-skip-eq0.true ∙ c.loop-k.invariant
+    ap S c.rung_of.ensures ∙ look_found r.side r.first.0 r.step.0 r.left c.loop-k.k c.loop-k.skip w c.if-left-ne0.true c.if-skip-eq0.true ∙ c.loop-k.invariant
 
 pub loop-k-preserved : goal.loop-k-preserved
 loop-k-preserved c =

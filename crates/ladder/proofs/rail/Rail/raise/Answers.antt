@@ -5,8 +5,8 @@ use Rattle.ladder.proofs.Raising.{raised_side, raised_places, side_ranged}
 use Rattle.ladder.proofs.Standing.{prices_fit}
 use Rattle.ladder.proofs.rail.Rail.raise.Goals as goal
 
-pub invariant-of-result : goal.invariant-of-result
-invariant-of-result c =
+pub invariant_of-result : goal.invariant_of-result
+invariant_of-result c =
     let r = c.args.rungs in
     let ls = c.filled-left.result in
     let lot = c.args.lot.0 in
