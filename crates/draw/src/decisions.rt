@@ -35,7 +35,7 @@ fn rank_and_walk<R: OfferRanking>(
     requires places { n ≤ length offers.old }
     requires ready { Ready lot.0 most.0 (take n offers.old) }
     requires price { is_price price.0 ≡ true }
-    ensures result { Confirms (favours rule.now) (R.Ranking.before rule.now) lot.0 price.0 least.0 most.0 (take n offers.old) result }
+    ensures result { Confirms (R.favours rule.now) (R.Ranking.before rule.now) lot.0 price.0 least.0 most.0 (take n offers.old) result }
     ensures first { take n offers.new ≡ ranked (R.Ranking.before rule.now) (take n offers.old) }
     ensures rest { drop n offers.new ≡ drop n offers.old }
     ensures pourable { Pourable (take n offers.new) }
@@ -57,7 +57,7 @@ pub fn decide<R: OfferRanking>(
     requires places { n ≤ length offers.old }
     requires ready { Ready lot.0 most.0 (take n offers.old) }
     requires price { is_price price.0 ≡ true }
-    ensures result { Confirms (favours rule.now) (R.Ranking.before rule.now) lot.0 price.0 least.0 most.0 (take n offers.old) result }
+    ensures result { Confirms (R.favours rule.now) (R.Ranking.before rule.now) lot.0 price.0 least.0 most.0 (take n offers.old) result }
     ensures first { take n offers.new ≡ ranked (R.Ranking.before rule.now) (take n offers.old) }
     ensures rest { drop n offers.new ≡ drop n offers.old }
     ensures pourable { Pourable (take n offers.new) }
@@ -86,7 +86,7 @@ fn serve<R: OfferRanking>(
     requires places { n ≤ length offers.old }
     requires ready { Ready lot.0 quantity.0 (take n offers.old) }
     requires price { is_price limit.0 ≡ true }
-    ensures result { Serves (favours rule.now) (R.Ranking.before rule.now) lot.0 limit.0 quantity.0 least_firms.0 firms.0 (take n offers.old) result }
+    ensures result { Serves (R.favours rule.now) (R.Ranking.before rule.now) lot.0 limit.0 quantity.0 least_firms.0 firms.0 (take n offers.old) result }
     ensures first { take n offers.new ≡ (if leb least_firms.0 firms.0 then ranked (R.Ranking.before rule.now) (take n offers.old) else take n offers.old) }
     ensures found { is_some result ≡ true → take n offers.new ≡ ranked (R.Ranking.before rule.now) (take n offers.old) }
     ensures rest { drop n offers.new ≡ drop n offers.old }
@@ -112,7 +112,7 @@ pub fn decide_automatic<R: OfferRanking>(
     requires places { n ≤ length offers.old }
     requires ready { Ready lot.0 quantity.0 (take n offers.old) }
     requires price { is_price limit.0 ≡ true }
-    ensures result { Serves (favours rule.now) (R.Ranking.before rule.now) lot.0 limit.0 quantity.0 least_firms.0 firms.0 (take n offers.old) result }
+    ensures result { Serves (R.favours rule.now) (R.Ranking.before rule.now) lot.0 limit.0 quantity.0 least_firms.0 firms.0 (take n offers.old) result }
     ensures first { take n offers.new ≡ (if leb least_firms.0 firms.0 then ranked (R.Ranking.before rule.now) (take n offers.old) else take n offers.old) }
     ensures found { is_some result ≡ true → take n offers.new ≡ ranked (R.Ranking.before rule.now) (take n offers.old) }
     ensures rest { drop n offers.new ≡ drop n offers.old }
@@ -132,7 +132,7 @@ fn rank_and_total<R: OfferRanking>(
     requires prices { All (λ o. is_price o.price.0 ≡ true) (take n offers.old) }
     requires apart { Apart named (take n offers.old) }
     requires quantity { quantity.0 ≤ 1000000 }
-    ensures result { Shows (favours rule.now) (R.Ranking.before rule.now) quantity.0 (take n offers.old) result }
+    ensures result { Shows (R.favours rule.now) (R.Ranking.before rule.now) quantity.0 (take n offers.old) result }
     ensures first { take n offers.new ≡ ranked (R.Ranking.before rule.now) (take n offers.old) }
     ensures rest { drop n offers.new ≡ drop n offers.old }
 {
@@ -151,7 +151,7 @@ pub fn total_status<R: OfferRanking>(
     requires prices { All (λ o. is_price o.price.0 ≡ true) (take n offers.old) }
     requires apart { Apart named (take n offers.old) }
     requires quantity { quantity.0 ≤ 1000000 }
-    ensures result { Shows (favours rule.now) (R.Ranking.before rule.now) quantity.0 (take n offers.old) result }
+    ensures result { Shows (R.favours rule.now) (R.Ranking.before rule.now) quantity.0 (take n offers.old) result }
     ensures first { take n offers.new ≡ ranked (R.Ranking.before rule.now) (take n offers.old) }
     ensures rest { drop n offers.new ≡ drop n offers.old }
 {

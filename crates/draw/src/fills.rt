@@ -45,7 +45,7 @@ fn write_fills<W: TellsFill + Copy>(
 ) -> usize
     requires places { at + length offers.now ≤ length out.old }
     requires offers { Pourable offers.now }
-    ensures written { Writes out.old out.new at result (map (tells taker.0) (fills offers.now n.0)) }
+    ensures written { Writes out.old out.new at result (map (W.tells taker.0) (fills offers.now n.0)) }
     ensures draw { FillsUp offers.now n.0 (fills offers.now n.0) }
     ensures few { result ≤ at + length offers.now }
 {
@@ -73,7 +73,7 @@ pub fn pour<W: TellsFill + Copy>(
 ) -> usize
     requires places { at + length offers.now ≤ length out.old }
     requires offers { Pourable offers.now }
-    ensures written { Writes out.old out.new at result (map (tells taker.0) (fills offers.now n.0)) }
+    ensures written { Writes out.old out.new at result (map (W.tells taker.0) (fills offers.now n.0)) }
     ensures draw { FillsUp offers.now n.0 (fills offers.now n.0) }
     ensures few { result ≤ at + length offers.now }
 {
@@ -90,7 +90,7 @@ fn pour_found<W: TellsFill + Copy>(
 ) -> usize
     requires places { at + length offers.now ≤ length out.old }
     requires offers { Pourable offers.now }
-    ensures written { Writes out.old out.new at result (map (tells taker.0) (traded offers.now found)) }
+    ensures written { Writes out.old out.new at result (map (W.tells taker.0) (traded offers.now found)) }
     ensures confirmed { FairConfirmation offers.now found }
     ensures served { FairTurn offers.now found }
     ensures few { result ≤ at + length offers.now }
@@ -111,7 +111,7 @@ pub fn execute<W: TellsFill + Copy>(
 ) -> usize
     requires places { at + length offers.now ≤ length out.old }
     requires offers { Pourable offers.now }
-    ensures written { Writes out.old out.new at result (map (tells taker.0) (traded offers.now found)) }
+    ensures written { Writes out.old out.new at result (map (W.tells taker.0) (traded offers.now found)) }
     ensures confirmed { FairConfirmation offers.now found }
     ensures served { FairTurn offers.now found }
     ensures few { result ≤ at + length offers.now }

@@ -19,14 +19,14 @@ pub trait Answering {
 
 // Whether this is an answer of the firm to the request.
 fn is_from<T: Answering>(answer: &T, request: Number, firm: Firm) -> bool
-    ensures { result ≡ (to_request answer.now == request.0 && of_firm answer.now == firm.0) }
+    ensures { result ≡ (T.to_request answer.now == request.0 && T.of_firm answer.now == firm.0) }
 {
     answer.request().0 == request.0 && answer.firm().0 == firm.0
 }
 
 // Whether the firm is among those that answer the request.
 fn has_firm<T: Answering>(answers: &[T], request: Number, firm: Firm) -> bool
-    ensures { result ≡ among firm.0 (firms_of of_firm to_request request.0 answers.now) }
+    ensures { result ≡ among firm.0 (firms_of T.of_firm T.to_request request.0 answers.now) }
 {
     for a in answers {
         if is_from(a, request, firm) {
@@ -38,7 +38,7 @@ fn has_firm<T: Answering>(answers: &[T], request: Number, firm: Firm) -> bool
 
 // Whether an answer is the last that its firm gives to the request, so that each firm counts once.
 fn is_last<T: Answering>(answer: &T, later: &[T], request: Number) -> bool
-    ensures { result ≡ (to_request answer.now == request.0 && not (among (of_firm answer.now) (firms_of of_firm to_request request.0 later.now))) }
+    ensures { result ≡ (T.to_request answer.now == request.0 && not (among (T.of_firm answer.now) (firms_of T.of_firm T.to_request request.0 later.now))) }
 {
     answer.request().0 == request.0 && !has_firm(later, request, answer.firm())
 }
@@ -46,8 +46,8 @@ fn is_last<T: Answering>(answer: &T, later: &[T], request: Number) -> bool
 // Counts the last answer of each firm.
 fn count_last<T: Answering>(answers: &[T], request: Number) -> u32
     requires { length answers.now < 2 ^ 32 }
-    ensures value { result ≡ different (firms_of of_firm to_request request.0 answers.now) }
-    ensures once { EachOnce (firms_of of_firm to_request request.0 answers.now) }
+    ensures value { result ≡ different (firms_of T.of_firm T.to_request request.0 answers.now) }
+    ensures once { EachOnce (firms_of T.of_firm T.to_request request.0 answers.now) }
 {
     let mut count: u32 = 0;
     for i in 0..answers.len() {
@@ -61,8 +61,8 @@ fn count_last<T: Answering>(answers: &[T], request: Number) -> u32
 // How many different firms the answers to a request come from: firms count, and not answers.
 pub fn count_firms<T: Answering>(answers: &[T], request: Number) -> FirmCount
     requires { length answers.now < 2 ^ 32 }
-    ensures value { result.0 ≡ different (firms_of of_firm to_request request.0 answers.now) }
-    ensures once { EachOnce (firms_of of_firm to_request request.0 answers.now) }
+    ensures value { result.0 ≡ different (firms_of T.of_firm T.to_request request.0 answers.now) }
+    ensures once { EachOnce (firms_of T.of_firm T.to_request request.0 answers.now) }
 {
     FirmCount(count_last(answers, request))
 }

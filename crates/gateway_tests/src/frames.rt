@@ -186,7 +186,7 @@ fn a_frame_byte_by_byte(rt: HostRuntime) -> Result<(), Fail> {
     says::<OpenOrders>(&rt, &answer, [5, 2, 2, 2, 990, 2000, 0, 0])?;
     match read::<OpenOrders>(&answer, 0) {
         Ok(Message::Answer { reference, .. }) => {
-            assert!(rt; reference == b"ANSWER-1");
+            assert!(rt; reference == b"ANSWER-1".as_slice());
             Ok(())
         },
         _ => {

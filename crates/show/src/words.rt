@@ -1,7 +1,6 @@
 // Messages and faults in words.
 use gateway::{Fault, Message};
-use std::fmt;
-use std::fmt::Write;
+use std::alloc::AllocError;
 use units::{Delay, Firm, FirmCount, Layer, MessageSide, Price, Quantity, Refusal};
 
 // What a firm wants of a quantity.
@@ -14,50 +13,50 @@ fn wants(side: MessageSide) -> &'static str {
 }
 
 // The eight bytes as text, those that are no printable ASCII in hexadecimal.
-fn reference(text: &mut String, bytes: &[u8]) -> fmt::Result {
-    text.write_str(", reference \"")?;
+fn reference(text: &mut String, bytes: &[u8]) -> Result<(), AllocError> {
+    text.push_str(", reference \"")?;
     for b in bytes {
         let byte = *b;
         match byte {
             b'"' | b'\\' => write!(text, "\\{}", char::from(byte))?,
-            b' '..=b'~' => text.write_char(char::from(byte))?,
+            b' '..=b'~' => text.push(char::from(byte))?,
             _ => write!(text, "\\x{byte:02x}")?,
         }
     }
-    text.write_str("\"")
+    text.push_str("\"")
 }
 
 // A number after the words that lead to it.
-fn number(text: &mut String, words: &str, value: u32) -> fmt::Result {
+fn number(text: &mut String, words: &str, value: u32) -> Result<(), AllocError> {
     write!(text, "{words}{value}")
 }
 
 // Who sends what kind, and on which side.
-fn sent(text: &mut String, kind: &str, firm: Firm, side: MessageSide) -> fmt::Result {
+fn sent(text: &mut String, kind: &str, firm: Firm, side: MessageSide) -> Result<(), AllocError> {
     let who = firm.0;
     let side = wants(side);
     write!(text, "{kind} by firm {who} {side}")
 }
 
 // A quantity at a price.
-fn offered(text: &mut String, quantity: Quantity, price: Price) -> fmt::Result {
+fn offered(text: &mut String, quantity: Quantity, price: Price) -> Result<(), AllocError> {
     number(text, " ", quantity.0)?;
     number(text, " at ", price.0)
 }
 
 // How long a request stays open.
-fn open_for(text: &mut String, delay: Delay) -> fmt::Result {
+fn open_for(text: &mut String, delay: Delay) -> Result<(), AllocError> {
     let seconds = delay.0;
     write!(text, ", open for {seconds} s")
 }
 
 // The least of a manual request is units.
-fn at_least_units(text: &mut String, least: Quantity) -> fmt::Result {
+fn at_least_units(text: &mut String, least: Quantity) -> Result<(), AllocError> {
     number(text, ", at least ", least.0)
 }
 
 // The least of an automatic request is firms.
-fn at_least_firms(text: &mut String, least: FirmCount) -> fmt::Result {
+fn at_least_firms(text: &mut String, least: FirmCount) -> Result<(), AllocError> {
     let firms = least.0;
     write!(
         text,
@@ -66,7 +65,7 @@ fn at_least_firms(text: &mut String, least: FirmCount) -> fmt::Result {
 }
 
 // The message with its fields, but for the reference; answers the reference.
-fn fields<'a>(text: &mut String, message: &Message<'a>) -> Result<&'a [u8], fmt::Error> {
+fn fields<'a>(text: &mut String, message: &Message<'a>) -> Result<&'a [u8], AllocError> {
     match *message {
         Message::Order {
             firm,
@@ -145,14 +144,14 @@ fn fields<'a>(text: &mut String, message: &Message<'a>) -> Result<&'a [u8], fmt:
         }
         Message::Clock { time, reference } => {
             number(text, "clock step to ", time.0)?;
-            text.write_str(" ms")?;
+            text.push_str(" ms")?;
             Ok(reference)
         }
     }
 }
 
 // The message, with all its fields.
-pub(super) fn message(text: &mut String, message: &Message) -> fmt::Result {
+pub(super) fn message(text: &mut String, message: &Message) -> Result<(), AllocError> {
     let bytes = fields(text, message)?;
     reference(text, bytes)
 }
@@ -177,7 +176,7 @@ fn why(refusal: Refusal) -> &'static str {
 }
 
 // The fault, with layer, number and byte.
-pub(super) fn fault(text: &mut String, fault: &Fault) -> fmt::Result {
+pub(super) fn fault(text: &mut String, fault: &Fault) -> Result<(), AllocError> {
     let (name, layer, number, byte) = (
         by(fault.layer),
         fault.layer.number(),

@@ -4,7 +4,7 @@ use Rattle.draw.proofs.shares.reach.Goals as goal
 
 pub returns-then-o-number : goal.returns-then-o-number
 returns-then-o-number c =
-    c.min_units.ensures ∙ (sym (poured_here c.args.offers.now c.loop-o.o-index nothing c.loop-o.rest c.args.number.0 c.loop-o-test.true c.if-o-number.true) ∙ c.loop-o.invariant)
+    c.min-units.ensures ∙ (sym (poured_here c.args.offers.now c.loop-o.o-index nothing c.loop-o.rest c.args.number.0 c.loop-o-test.true c.if-o-number.true) ∙ c.loop-o.invariant)
 
 pub loop-o-preserved : goal.loop-o-preserved
 loop-o-preserved c =

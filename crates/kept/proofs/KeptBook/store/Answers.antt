@@ -12,10 +12,10 @@ pub invariant_of-self : goal.invariant_of-self
 invariant_of-self c =
     let b = c.args.self.now in
     let t : can_enter 128 (kept_means b) Buy c.args.offer ≡ true = ap (λ (z : Side). can_enter 128 (kept_means b) z c.args.offer) (sym c.in-Buy.is) ∙ c.requires in
-    (ap (λ (os : List Offer). sound 128 (with_side (kept_means b) Buy os)) c.push.ensures ∙ sound_entered 128 (kept_means b) Buy c.args.offer b.ok t, tt)
+    record { ok = ap (λ (os : List Offer). sound 128 (with_side (kept_means b) Buy os)) c.push.ensures ∙ sound_entered 128 (kept_means b) Buy c.args.offer b.ok t }
 
 pub invariant_of-self-in-Sell : goal.invariant_of-self-in-Sell
 invariant_of-self-in-Sell c =
     let b = c.args.self.now in
     let t : can_enter 128 (kept_means b) Sell c.args.offer ≡ true = ap (λ (z : Side). can_enter 128 (kept_means b) z c.args.offer) (sym c.in-Sell.is) ∙ c.requires in
-    (ap (λ (os : List Offer). sound 128 (with_side (kept_means b) Sell os)) c.push-in-Sell.ensures ∙ sound_entered 128 (kept_means b) Sell c.args.offer b.ok t, tt)
+    record { ok = ap (λ (os : List Offer). sound 128 (with_side (kept_means b) Sell os)) c.push-in-Sell.ensures ∙ sound_entered 128 (kept_means b) Sell c.args.offer b.ok t }

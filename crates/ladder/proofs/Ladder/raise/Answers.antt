@@ -13,4 +13,4 @@ invariant_of-result c =
     let lot = c.args.lot.0 in
     let buys = ap (λ (os : List Offer). sound 64 (meaning_of os (rail_offers c.raise-2.result) lot)) c.raise.ensures in
     let sells = ap (λ (os : List Offer). sound 64 (meaning_of (rungs_of Buy c.args.buys) os lot)) c.raise-2.ensures in
-    (buys ∙ sells ∙ sound_raised lot c.args.buys c.args.sells c.requires, tt)
+    record { ok = buys ∙ sells ∙ sound_raised lot c.args.buys c.args.sells c.requires }

@@ -23,7 +23,7 @@ invariant_of-result c =
     let q = made_ok (kept_refused c.args.lot.0) (empty_book c.args.lot.0) n c.in-Ok-new.ensures in
     let l : m.lot ≡ c.args.lot.0 = ap (λ (z : Meaning). z.lot) p.1 in
     let e : n ≡ empty_book m.lot = q.1 ∙ ap empty_book (sym l) in
-    (l ∙ sym (ap (λ (z : Meaning). z.lot) q.1), (ap (sound 128) (joined_empty m n e) ∙ sound_wider 64 128 m (omega arith) c.in-Ok.rungs.ok, tt))
+    record { lots = l ∙ sym (ap (λ (z : Meaning). z.lot) q.1); ok = ap (sound 128) (joined_empty m n e) ∙ sound_wider 64 128 m (omega arith) c.in-Ok.rungs.ok }
 
 pub returns : goal.returns
 returns c =

@@ -28,7 +28,7 @@ invariant_of-self c =
     let t = sym (can m b.rungs.ok c.args.side c.args.number.0 l c.left-left.ensures) ∙ ok_tells (can_take m c.args.side c.args.number.0 l) true c.take.result c.take.ensures.result c.if-is_ok.ensures.value in
     let e = after m b.rungs.ok c.args.side c.args.number.0 l c.left-left.ensures (ladder_means c.take.new.self) c.take.ensures.after in
     let w = remove_front m n b.lots b.ok c.args.side c.args.number.0 (ladder_means c.take.new.self) t e in
-    (ap (λ (z : Meaning). z.lot) e ∙ lot_after_remove m c.args.side c.args.number.0 ∙ b.lots, (ap (sound 128) w.1 ∙ sound_after_remove 128 (joined m n) c.args.side c.args.number.0 b.ok, tt))
+    record { lots = ap (λ (z : Meaning). z.lot) e ∙ lot_after_remove m c.args.side c.args.number.0 ∙ b.lots; ok = ap (sound 128) w.1 ∙ sound_after_remove 128 (joined m n) c.args.side c.args.number.0 b.ok }
 
 pub returns-then-is_ok : goal.returns-then-is_ok
 returns-then-is_ok c =
@@ -49,10 +49,8 @@ invariant_of-self-2 c =
     let l = c.left-left.result.0 in
     let t = sym (can m b.rungs.ok c.args.side c.args.number.0 l c.left-left.ensures) ∙ ok_tells (can_take m c.args.side c.args.number.0 l) false c.take.result c.take.ensures.result c.if-is_ok.ensures.value in
     let e = after m b.rungs.ok c.args.side c.args.number.0 l c.left-left.ensures (ladder_means c.take.new.self) c.take.ensures.after in
-    let w = remove_back m n b.lots b.ok c.args.side c.args.number.0 (ladder_means c.take.new.self) (kept_means c.remove.new.self) t e c.remove.ensures.after in (
-      ap (λ (z : Meaning). z.lot) e ∙ lot_after_remove m c.args.side c.args.number.0 ∙ b.lots ∙ sym (ap (λ (z : Meaning). z.lot) c.remove.ensures.after ∙ lot_after_remove n c.args.side c.args.number.0),
-      (ap (sound 128) w.1 ∙ sound_after_remove 128 (joined m n) c.args.side c.args.number.0 b.ok, tt),
-    )
+    let w = remove_back m n b.lots b.ok c.args.side c.args.number.0 (ladder_means c.take.new.self) (kept_means c.remove.new.self) t e c.remove.ensures.after in
+    record { lots = ap (λ (z : Meaning). z.lot) e ∙ lot_after_remove m c.args.side c.args.number.0 ∙ b.lots ∙ sym (ap (λ (z : Meaning). z.lot) c.remove.ensures.after ∙ lot_after_remove n c.args.side c.args.number.0); ok = ap (sound 128) w.1 ∙ sound_after_remove 128 (joined m n) c.args.side c.args.number.0 b.ok }
 
 pub returns : goal.returns
 returns c =

@@ -16,7 +16,7 @@ invariant_of-self c =
     let n = kept_means b.orders in
     let t = ok_tells (can_take m c.args.side c.args.number.0 c.args.amount.0) true c.take.result c.take.ensures.result c.if-is_ok.ensures.value in
     let w = take_front m n b.lots b.ok c.args.side c.args.number.0 c.args.amount.0 (ladder_means c.take.new.self) t c.take.ensures.after in
-    (ap (λ (z : Meaning). z.lot) c.take.ensures.after ∙ lot_after_take m c.args.side c.args.number.0 c.args.amount.0 ∙ b.lots, (ap (sound 128) w.1 ∙ sound_after_take 128 (joined m n) c.args.side c.args.number.0 c.args.amount.0 b.ok, tt))
+    record { lots = ap (λ (z : Meaning). z.lot) c.take.ensures.after ∙ lot_after_take m c.args.side c.args.number.0 c.args.amount.0 ∙ b.lots; ok = ap (sound 128) w.1 ∙ sound_after_take 128 (joined m n) c.args.side c.args.number.0 c.args.amount.0 b.ok }
 
 pub returns-then-is_ok : goal.returns-then-is_ok
 returns-then-is_ok c =
@@ -33,10 +33,8 @@ invariant_of-self-2 c =
     let m = ladder_means b.rungs in
     let n = kept_means b.orders in
     let t = ok_tells (can_take m c.args.side c.args.number.0 c.args.amount.0) false c.take.result c.take.ensures.result c.if-is_ok.ensures.value in
-    let w = take_back m n b.lots b.ok c.args.side c.args.number.0 c.args.amount.0 (ladder_means c.take.new.self) (kept_means c.take-2.new.self) t c.take.ensures.after c.take-2.ensures.after in (
-      ap (λ (z : Meaning). z.lot) c.take.ensures.after ∙ lot_after_take m c.args.side c.args.number.0 c.args.amount.0 ∙ b.lots ∙ sym (ap (λ (z : Meaning). z.lot) c.take-2.ensures.after ∙ lot_after_take n c.args.side c.args.number.0 c.args.amount.0),
-      (ap (sound 128) w.1 ∙ sound_after_take 128 (joined m n) c.args.side c.args.number.0 c.args.amount.0 b.ok, tt),
-    )
+    let w = take_back m n b.lots b.ok c.args.side c.args.number.0 c.args.amount.0 (ladder_means c.take.new.self) (kept_means c.take-2.new.self) t c.take.ensures.after c.take-2.ensures.after in
+    record { lots = ap (λ (z : Meaning). z.lot) c.take.ensures.after ∙ lot_after_take m c.args.side c.args.number.0 c.args.amount.0 ∙ b.lots ∙ sym (ap (λ (z : Meaning). z.lot) c.take-2.ensures.after ∙ lot_after_take n c.args.side c.args.number.0 c.args.amount.0); ok = ap (sound 128) w.1 ∙ sound_after_take 128 (joined m n) c.args.side c.args.number.0 c.args.amount.0 b.ok }
 
 pub returns : goal.returns
 returns c =

@@ -3,7 +3,7 @@ use Rattle.kept.proofs.Stored.{room, gap_closed}
 use Rattle.kept.proofs.table.Table.remove_at.Goals as goal
 
 pub invariant_of-self : goal.invariant_of-self
-invariant_of-self c = let t = c.args.self.now in (c.close_gap.ensures.places, (omega (arith, t.few), tt))
+invariant_of-self c = let t = c.args.self.now in record { places = c.close_gap.ensures.places; few = omega (arith, t.few) }
 
 pub returns : goal.returns
 returns c =

@@ -13,7 +13,7 @@ invariant_of-result c =
     let e = raised_side c.args.side lot r c.requires.few c.requires.quantity ls c.filled-left.ensures in
     let g : all_in_range lot (standing c.args.side r.first.0 r.step.0 0 ls) ≡ true =
     ap (all_in_range lot) e ∙ side_ranged c.args.side lot r c.requires.few c.requires.quantity c.requires.prices in
-    (raised_places c.args.side lot r c.requires.few c.requires.quantity ls c.filled-left.ensures, (prices_fit c.args.side r.first.0 r.step.0 lot ls g, tt))
+    record { places = raised_places c.args.side lot r c.requires.few c.requires.quantity ls c.filled-left.ensures; fits = prices_fit c.args.side r.first.0 r.step.0 lot ls g }
 
 pub returns : goal.returns
 returns c = raised_side c.args.side c.args.lot.0 c.args.rungs c.requires.few c.requires.quantity c.filled-left.result c.filled-left.ensures
