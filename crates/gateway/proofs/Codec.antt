@@ -1,5 +1,5 @@
 -- Reading and writing agree.
-use Rattle.std.proofs.Common.{◌≡◌, ℕ, ◌+◌, ◌-◌, ◌*◌, ◌/◌, ◌%◌, ◌<◌, ◌≤◌, Bool, true, false, cond, ◌||◌, eqb, ltb, List, [], ◌∷◌, ◌++◌, length, get_or, take, drop, Ok, Err, Option, Result, sym, refl, ap, ◌∙◌, subst, zero-add, arith, rules}
+use Rattle.std.proofs.Common.{◌≡◌, ℕ, ◌+◌, ◌-◌, ◌*◌, ◌/◌, ◌%◌, ◌<◌, ◌≤◌, Bool, true, false, cond, ◌||◌, eqb, ltb, List, [], ◌∷◌, ◌++◌, length, get_or, take, drop, Ok, Err, Option, Result, sym, refl, ap, ◌∙◌, subst, zero-add, arith}
 use Rattle.std.specs.declared.option.Option.TheVariants as opt
 use Rattle.std.proofs.lemmas.List.{take_rest, get_or-take, length-take-le, take_all, drop_all, length-drop, append-nil}
 use Rattle.std.proofs.lemmas.Bool.{cond-true, cond-false, eq-eqb, le-ltb, eqb-true}
@@ -11,7 +11,7 @@ use Rattle.units.specs.declared.side.MessageSide.{MessageSide}
 use Rattle.units.specs.declared.side.MessageSide.TheVariants as sides
 use Rattle.gateway.specs.declared.messages.Message.{Message}
 use Rattle.gateway.specs.declared.messages.Message.TheVariants.{Order, Withdrawal, ManualRequest, AutoRequest, Answer, Confirmation, Clock}
-use Rattle.gateway.specs.Frames.{Fields, kind_code, kind_of, side_code, uses_of, used_at, first_stray, field_at, kept, le, fields_in, clean, kinded, decoded, encoded, front, written_over, meaning}
+use Rattle.gateway.specs.Frames.{Fields, kind_code, kind_of, side_code, uses_of, used_at, first_stray, fields_in, clean, kinded, decoded, encoded, front, meaning}
 use borrow.Rule.Slice.PartMut.{put_mid, post_of}
 use Rattle.gateway.specs.Laws.{Bytes, Fit, Rereads, Rewrites}
 use Rattle.gateway.proofs.Stray.{none_stray}

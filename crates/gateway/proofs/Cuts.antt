@@ -1,5 +1,5 @@
 -- Cutting a file into frames.
-use Rattle.std.proofs.Common.{◌≡◌, ℕ, zero, suc, ◌+◌, ◌-◌, ◌*◌, ◌/◌, ◌%◌, ◌<◌, ◌≤◌, Bool, cond, eqb, ltb, List, [], ◌∷◌, ◌++◌, length, take, drop, Some, None, Ok, Err, Option, Result, sym, refl, ap, ◌∙◌, add_assoc, zero-add, mul-suc, mul-add, arith, length-append}
+use Rattle.std.proofs.Common.{◌≡◌, ℕ, zero, suc, ◌+◌, ◌-◌, ◌*◌, ◌/◌, ◌%◌, ◌<◌, ◌≤◌, cond, eqb, ltb, List, [], ◌++◌, length, take, drop, Some, None, Ok, Err, sym, refl, ap, ◌∙◌, add_assoc, zero-add, mul-suc, mul-add, arith, length-append}
 use native.Mathlib.Nat.{mul-add-mod_self_left}
 use Rattle.std.proofs.lemmas.List.{length-take, length-drop, take_all, take-take, drop-take, take-append-drop, drop_all, drop-drop, drop-append-le}
 use Rattle.std.proofs.lemmas.Bool.{cond-true, cond-false, lt-ltb, le-ltb}
@@ -7,10 +7,9 @@ use Rattle.std.proofs.lemmas.List.Edits.{take-paste, drop-paste}
 use lib.Seq.{paste}
 use Rattle.std.proofs.lemmas.Bool.Decides.{nat_tests}
 use Rattle.units.specs.declared.refusal.Refusal.TheVariants as refusals
-use Rattle.gateway.specs.declared.faults.Fault.{Fault}
 use Rattle.gateway.specs.Faults.{fault}
 use Rattle.gateway.specs.Cuts.{whole_in, short_in, count_of, cut_at, piece_at, pieces}
-use Rattle.gateway.specs.Laws.{Cut, Covers, Resumes}
+use Rattle.gateway.specs.Laws.{Covers, Resumes}
 
 take_add : (m n : ℕ) (l : List ℕ) → take m l ++ take n (drop m l) ≡ take (m + n) l
 take_add m n l = let h : m ≤ m + n = omega arith in rw (take-take, drop-take) at (take-append-drop m (take (m + n) l))

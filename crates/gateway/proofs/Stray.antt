@@ -5,7 +5,7 @@ use Rattle.std.proofs.lemmas.List.{at_drop_more, at_drop_all, get_or-take, lengt
 use Rattle.std.proofs.lemmas.Bool.{cond-true, cond-false, cases_Bool, and_parts, ltb-true, ltb-false}
 use Rattle.std.proofs.lemmas.Bool.Decides.{nat_tests}
 use Rattle.gateway.specs.declared.messages.Uses.{Uses}
-use Rattle.gateway.specs.Frames.{used_at, allowed_at, first_stray, field_at, clean_fields}
+use Rattle.gateway.specs.Frames.{allowed_at, first_stray, field_at, clean_fields}
 use Rattle.gateway.specs.Laws.{First, Firsts}
 
 pub stray_more : (u : Uses) (xs : List ℕ) (p : ℕ) → p < length xs → allowed_at u p (get_or xs p 0) ≡ true

@@ -1,13 +1,6 @@
 -- What a frame of 32 bytes says, and the frame of a message.
 use Rattle.std.specs.Prelude.{ℕ, ◌+◌, ◌*◌, ◌/◌, ◌%◌, Bool, true, false, cond, ◌&&◌, ◌||◌, List, [], ◌∷◌, ◌++◌, length, take, drop, Ok, Err, Option, Result, ◌==◌, nat_lt, slice_index}
 use Rattle.std.specs.declared.option.Option.TheVariants as opt
-use Rattle.units.specs.declared.Delay.{Delay}
-use Rattle.units.specs.declared.Firm.{Firm}
-use Rattle.units.specs.declared.FirmCount.{FirmCount}
-use Rattle.units.specs.declared.Number.{Number}
-use Rattle.units.specs.declared.Price.{Price}
-use Rattle.units.specs.declared.Quantity.{Quantity}
-use Rattle.units.specs.declared.Time.{Time}
 use Rattle.units.specs.declared.refusal.Refusal.TheVariants as refusals
 use Rattle.units.specs.declared.side.MessageSide.{MessageSide}
 use Rattle.units.specs.declared.side.MessageSide.TheVariants as sides

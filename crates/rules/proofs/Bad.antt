@@ -1,5 +1,5 @@
 -- Histories of wrong engines are not lawful: what the step replies and reports is, and the law leaves no choice.
-use Rattle.std.proofs.Common.{◌≡◌, ℕ, List, [], length, take, Ok, Err, sym, refl, ap, ◌∙◌, arith}
+use Rattle.std.proofs.Common.{◌≡◌, ℕ, List, length, take, Ok, Err, sym, refl, ap, ◌∙◌, arith}
 use Rattle.units.specs.Refusals.{number_of}
 use Rattle.draw.specs.Walk.{walk}
 use Rattle.draw.specs.Fills.{fills}

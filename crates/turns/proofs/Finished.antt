@@ -1,5 +1,5 @@
 -- What was written is a part of the list, and what two lists of reports leave one after another they leave together.
-use Rattle.std.proofs.Common.{◌≡◌, ℕ, ◌-◌, ◌≤◌, List, [], ◌++◌, length, take, drop, Some, sym, ap, ◌∙◌, subst, ap₂, arith}
+use Rattle.std.proofs.Common.{◌≡◌, ℕ, ◌≤◌, List, [], ◌++◌, length, take, drop, Some, sym, ap, ◌∙◌, subst, ap₂, arith}
 use Rattle.std.proofs.lemmas.List.{length-take-le, drop_all, drop-append-le}
 use Rattle.std.proofs.lemmas.Slice.{between_is}
 use Rattle.units.specs.declared.side.Side.{Side}

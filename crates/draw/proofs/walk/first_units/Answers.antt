@@ -1,4 +1,4 @@
-use Rattle.std.proofs.Common.{ℕ, ◌-◌, get_or, sym, ◌∙◌, ap₂, arith}
+use Rattle.std.proofs.Common.{ℕ, get_or, sym, ◌∙◌, ap₂, arith}
 use Rattle.std.proofs.ByRecursion.{All-get_or}
 use Rattle.ranked.proofs.Sorting.{distinct_from_apart}
 use Rattle.draw.specs.Offers.{named}
