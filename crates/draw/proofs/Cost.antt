@@ -1,7 +1,7 @@
 -- The money of the first units in a ranked order is the best that any draw of as many units has.
 use Rattle.std.proofs.Common.{◌≡◌, ℕ, ◌+◌, ◌-◌, ◌*◌, ◌%◌, ◌≤◌, min, false, List, [], ◌∷◌, sum_by, sym, refl, ap, ◌∙◌, subst, ap₂, mul-zero, zero-add, mul-add, arith}
 use native.Mathlib.Nat.{zero-min, zero-sub}
-use Rattle.std.specs.List.{AllByRecursion as All}
+use Rattle.std.specs.List.{AllByRecursion}
 use Rattle.std.proofs.ByRecursion.{All-weaker}
 use Rattle.std.proofs.lemmas.List.Sums.{sum_by-cons}
 use Rattle.std.proofs.lemmas.Bool.{eq-eqb, ne_eqb, ltb-false, cond-true, cond-false}
@@ -19,7 +19,7 @@ use Rattle.draw.proofs.Sides.{times, whole_min, whole_sub}
 -- the better price first
 abbrev pub PriceFirst : Side → List Eligible → Type 0
 PriceFirst s [] = Unit {0}
-PriceFirst s (o ∷ os) = All (λ later. NoWorse s o.price.0 later.price.0) os × PriceFirst s os
+PriceFirst s (o ∷ os) = AllByRecursion (λ later. NoWorse s o.price.0 later.price.0) os × PriceFirst s os
 
 not_better : (s : Side) (a b : ℕ) → better s b a ≡ false → NoWorse s a b
 not_better Buy a b e = ltb-false b a e
@@ -53,7 +53,7 @@ cost_min (o ∷ os) n =
     rw (first, later, cost_min os (n - o.left.0))
 
 -- e units more cost at least e times a price that is no worse than any
-pub cost_step : (s : Side) (p : ℕ) (os : List Eligible) (m e : ℕ) → All (λ o. NoWorse s p o.price.0) os → m + e ≤ held os →
+pub cost_step : (s : Side) (p : ℕ) (os : List Eligible) (m e : ℕ) → AllByRecursion (λ o. NoWorse s p o.price.0) os → m + e ≤ held os →
     NoWorse s (cost os m + p * e) (cost os (m + e))
 unfolding cost held
 cost_step s p [] m e a h = none s e (omega arith)
@@ -86,7 +86,7 @@ cost_step s p (o ∷ os) m e a h =
     glue Sell x c u v w d x' d' pe i j k h g = omega arith
 
 -- the offers' first units have the best terms of all draws of as many
-pub least_cost : (s : Side) (os : List Eligible) (x : Draw) → PriceFirst s os → All (λ o. x (named o) ≤ o.left.0) os →
+pub least_cost : (s : Side) (os : List Eligible) (x : Draw) → PriceFirst s os → AllByRecursion (λ o. x (named o) ≤ o.left.0) os →
     (size os x ≤ held os) × NoWorse s (cost os (size os x)) (money os x)
 unfolding cost held
 least_cost Buy [] x f a = (omega arith, omega arith)
@@ -126,11 +126,11 @@ least_cost s (o ∷ os) x f a = rw (sum_by-cons, sum_by-cons) (within (least_cos
 
 -- ── what the draw that empties the offers in their order takes ──
 
-pub all_both : {X : Type 0} (P Q R : X → Type 0) → ((x : X) → P x → Q x → R x) → (xs : List X) → All P xs → All Q xs → All R xs
+pub all_both : {X : Type 0} (P Q R : X → Type 0) → ((x : X) → P x → Q x → R x) → (xs : List X) → AllByRecursion P xs → AllByRecursion Q xs → AllByRecursion R xs
 all_both P Q R f [] p q = tt
 all_both P Q R f (x ∷ xs) p q = (f x p.0 q.0, all_both P Q R f xs p.1 q.1)
 
-pub sum_by_same : {X : Type 0} (f g : X → ℕ) (xs : List X) → All (λ x. f x ≡ g x) xs → sum_by f xs ≡ sum_by g xs
+pub sum_by_same : {X : Type 0} (f g : X → ℕ) (xs : List X) → AllByRecursion (λ x. f x ≡ g x) xs → sum_by f xs ≡ sum_by g xs
 sum_by_same f g [] a = refl
 sum_by_same f g (x ∷ xs) a = sum_by-cons f x xs ∙ (ap₂ (λ m n. m + n) a.0 (sum_by_same f g xs a.1) ∙ sym (sum_by-cons g x xs))
 
@@ -139,7 +139,7 @@ poured_first : (o : Eligible) (os : List Eligible) (n : ℕ) → poured (o ∷ o
 poured_first o os n = cond-true _ _ _ (eq-eqb (named o) (named o) refl)
 
 poured_later : (o : Eligible) (os : List Eligible) (n : ℕ) → Distinct named (o ∷ os) →
-    All (λ later. poured (o ∷ os) n (named later) ≡ poured os (n - o.left.0) (named later)) os
+    AllByRecursion (λ later. poured (o ∷ os) n (named later) ≡ poured os (n - o.left.0) (named later)) os
 poured_later o os n a = All-weaker _ _ (λ later ne. cond-false _ _ _ (ne_eqb (named later) (named o) ne)) os a.0
 
 pub poured_totals : (os : List Eligible) (n : ℕ) → Distinct named os → (size os (poured os n) ≡ min n (held os)) × (money os (poured os n) ≡ cost os n)
@@ -153,7 +153,7 @@ poured_totals (o ∷ os) n a =
       rw (sum_by-cons, sum_by_same _ _ os (All-weaker _ _ (λ x e. ap (λ v. x.price.0 * v) e) os later)) (rw (first, ih.1)),
     )
 
-pub poured_draw : (lot : ℕ) (os : List Eligible) (n : ℕ) → Distinct named os → All (λ o. o.left.0 % lot ≡ 0) os → n % lot ≡ 0 → All (λ o. (poured os n (named o) ≤ o.left.0) × (poured os n (named o) % lot ≡ 0)) os
+pub poured_draw : (lot : ℕ) (os : List Eligible) (n : ℕ) → Distinct named os → AllByRecursion (λ o. o.left.0 % lot ≡ 0) os → n % lot ≡ 0 → AllByRecursion (λ o. (poured os n (named o) ≤ o.left.0) × (poured os n (named o) % lot ≡ 0)) os
 poured_draw lot [] n a w h = tt
 poured_draw lot (o ∷ os) n a w h = (
   subst (λ v. (v ≤ o.left.0) × (v % lot ≡ 0)) (sym (poured_first o os n)) (omega arith, whole_min lot n o.left.0 h w.0),
@@ -162,6 +162,6 @@ poured_draw lot (o ∷ os) n a w h = (
       (poured_draw lot os (n - o.left.0) a.1 w.1 (whole_sub lot n o.left.0 h w.0)),
 )
 
-pub poured_only : (os : List Eligible) (n k : ℕ) → All (λ o. named o ≡ k → ⊥) os → poured os n k ≡ 0
+pub poured_only : (os : List Eligible) (n k : ℕ) → AllByRecursion (λ o. named o ≡ k → ⊥) os → poured os n k ≡ 0
 poured_only [] n k a = refl
 poured_only (o ∷ os) n k a = cond-false _ _ _ (ne_eqb k (named o) (λ h. a.0 (sym h))) ∙ poured_only os (n - o.left.0) k a.1

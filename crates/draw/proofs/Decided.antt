@@ -1,6 +1,6 @@
 -- From what the walk finds to what the public calls on draws promise.
 use Rattle.std.proofs.Common.{◌≡◌, ℕ, ◌*◌, ◌<◌, ◌≤◌, Bool, true, false, cond, List, None, Option, sym, ap, ◌∙◌, subst, ap₂, arith}
-use Rattle.std.specs.List.{AllByRecursion as All}
+use Rattle.std.specs.List.{AllByRecursion}
 use Rattle.std.specs.List.Sorted.{IsPermutation}
 use Rattle.std.proofs.lemmas.List.Sorted.{sum_by-IsPermutation}
 use Rattle.std.proofs.ByRecursion.{all_shuffled}
@@ -35,10 +35,10 @@ pub request_priced : (s : Side) (os : List Eligible) → Apart named os → Pric
 request_priced s os a = record { apart = a; order = request_order s; better_is_first = request_better s }
 
 -- ranked offers are as sound as they came
-pub ranked_sound : (before : Eligible → Eligible → Bool) (lot : ℕ) (os rs : List Eligible) → rs ≡ ranked before os → All (Sound lot) os → All (Sound lot) rs
-ranked_sound before lot os rs e a = subst (All (Sound lot)) (sym e) (all_shuffled (Sound lot) os (ranked before os) (ranked_shuffled before os) a)
+pub ranked_sound : (before : Eligible → Eligible → Bool) (lot : ℕ) (os rs : List Eligible) → rs ≡ ranked before os → AllByRecursion (Sound lot) os → AllByRecursion (Sound lot) rs
+ranked_sound before lot os rs e a = subst (AllByRecursion (Sound lot)) (sym e) (all_shuffled (Sound lot) os (ranked before os) (ranked_shuffled before os) a)
 
-pub lots : (lot most : ℕ) (os : List Eligible) → is_lot lot ≡ true → is_quantity lot most ≡ true → All (Sound lot) os → Lots lot most os
+pub lots : (lot most : ℕ) (os : List Eligible) → is_lot lot ≡ true → is_quantity lot most ≡ true → AllByRecursion (Sound lot) os → Lots lot most os
 lots lot most os l q a = record { some = (let b = (lot_bounds lot l).0 in omega arith); whole_most = (quantity_bounds lot most q).2; whole = sound_whole lot os a }
 
 pub ready_pourable : (lot most : ℕ) (os : List Eligible) → Ready lot most os → Pourable os

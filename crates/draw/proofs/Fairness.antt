@@ -1,6 +1,6 @@
 -- The fills of a decision are what the rules name.
 use Rattle.std.proofs.Common.{◌≡◌, ℕ, ◌<◌, Bool, true, List, [], is_some, Some, None, sum_by, Option, sym, refl, ap, ◌∙◌, subst, arith}
-use Rattle.std.specs.List.{AllByRecursion as All}
+use Rattle.std.specs.List.{AllByRecursion}
 use Rattle.std.proofs.lemmas.List.Sorted.{sum_by-IsPermutation}
 use Rattle.units.specs.declared.side.Side.{Side}
 use Rattle.units.specs.declared.Quantity.{Quantity}
@@ -15,7 +15,7 @@ use Rattle.draw.specs.Fills.{taken, fills, traded, Fair, FairConfirmation, FairT
 use Rattle.draw.proofs.Pouring.{fills_up}
 
 pub fair : (s : Side) (before : Eligible → Eligible → Bool) (os rs : List Eligible) (IsGood : Draw → Type 0) (found : Option (Quantity × Money)) → (is_some found ≡ true → rs ≡ ranked before os) →
-    Apart named rs → All (λ o. 0 < o.left.0) rs → ((x : Draw) → IsGood x → 0 < size os x) → Decides s before os IsGood found → Fair s before os IsGood (traded rs found)
+    Apart named rs → AllByRecursion (λ o. 0 < o.left.0) rs → ((x : Draw) → IsGood x → 0 < size os x) → Decides s before os IsGood found → Fair s before os IsGood (traded rs found)
 fair s before os rs IsGood None er a l some d = record { unfilled = λ e. d; only_so = λ none. refl; trades = λ ne. absurd (ne refl); terms = λ ne. absurd (ne refl) }
 fair s before os rs IsGood (Some r) er a l some d =
     record {
@@ -51,8 +51,8 @@ fair s before os rs IsGood (Some r) er a l some d =
         let h = some x t.good in
         omega arith
 
-pub fair_confirmation : (rs : List Eligible) (found : Option (Quantity × Money)) → Apart named rs → All (λ o. 0 < o.left.0) rs → FairConfirmation rs found
+pub fair_confirmation : (rs : List Eligible) (found : Option (Quantity × Money)) → Apart named rs → AllByRecursion (λ o. 0 < o.left.0) rs → FairConfirmation rs found
 fair_confirmation rs found a l s before lot price least most os er c = fair s before os rs _ found (λ e. er) a l (λ x g. g.some) c.decides
 
-pub fair_turn : (rs : List Eligible) (found : Option (Quantity × Money)) → Apart named rs → All (λ o. 0 < o.left.0) rs → FairTurn rs found
+pub fair_turn : (rs : List Eligible) (found : Option (Quantity × Money)) → Apart named rs → AllByRecursion (λ o. 0 < o.left.0) rs → FairTurn rs found
 fair_turn rs found a l s before lot limit quantity least_firms firms os some er c = fair s before os rs _ found er a l (λ x g. (let e = g.exact in omega arith)) c.decides

@@ -1,7 +1,7 @@
 -- The walk over the ranked offers finds the draw that trades, or that there is no good draw.
 use Rattle.std.proofs.Common.{◌≡◌, ℕ, ◌+◌, ◌*◌, ◌%◌, ◌<◌, ◌≤◌, min, Bool, true, false, cond, ◌&&◌, ltb, leb, List, [], ◌∷◌, Some, None, sum_by, Option, sym, refl, ap, ◌∙◌, subst, ap₂, inl, inr, mul-zero, zero-add, arith}
 use native.Mathlib.Nat.{zero-mod}
-use Rattle.std.specs.List.{AllByRecursion as All}
+use Rattle.std.specs.List.{AllByRecursion}
 use Rattle.std.specs.List.Sorted.{IsPermutation}
 use Rattle.std.proofs.ByRecursion.{All-weaker, all_shuffled}
 use Rattle.std.proofs.lemmas.List.Sorted.{sum_by-IsPermutation, IsPermutation-sym}
@@ -34,9 +34,9 @@ pub record Priced (s : Side) (before : Eligible → Eligible → Bool) (os : Lis
 pub record Lots (lot most : ℕ) (os : List Eligible) : Type 0 where
   pub some : 0 < lot
   pub whole_most : most % lot ≡ 0
-  pub whole : All (λ o. o.left.0 % lot ≡ 0) os
+  pub whole : AllByRecursion (λ o. o.left.0 % lot ≡ 0) os
 
-whole_sum : (lot : ℕ) (f : Eligible → ℕ) (os : List Eligible) → All (λ o. f o % lot ≡ 0) os → sum_by f os % lot ≡ 0
+whole_sum : (lot : ℕ) (f : Eligible → ℕ) (os : List Eligible) → AllByRecursion (λ o. f o % lot ≡ 0) os → sum_by f os % lot ≡ 0
 whole_sum lot f [] a = zero-mod lot
 whole_sum lot f (o ∷ os) a = rw sum_by-cons (whole_add lot (f o) (sum_by f os) a.0 (whole_sum lot f os a.1))
 
@@ -96,7 +96,7 @@ module _ (s : Side) (before : Eligible → Eligible → Bool) (os : List Eligibl
       subst (λ v. NoWorse s v (money os x)) c h.1
 
   module _ (lot price least most : ℕ) (l : Lots lot most os) where
-    ranked_whole : All (λ o. o.left.0 % lot ≡ 0) rs
+    ranked_whole : AllByRecursion (λ o. o.left.0 % lot ≡ 0) rs
     ranked_whole = all_shuffled _ os rs same l.whole
 
     module _ (w : ℕ) (r : Reach s lot price most rs 0 0 w) where

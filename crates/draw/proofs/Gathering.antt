@@ -1,6 +1,6 @@
 -- What a request may draw on, gathered offer by offer; and that it is as sound and as much apart as what is offered.
 use Rattle.std.proofs.Common.{◌≡◌, ℕ, ◌≤◌, Bool, true, false, cond, eqb, List, [], ◌∷◌, ◌++◌, map, Some, None, count_by, filter, Option, refl, ap, ◌∙◌, subst, arith}
-use Rattle.std.specs.List.{AllByRecursion as All}
+use Rattle.std.specs.List.{AllByRecursion}
 use Rattle.std.proofs.lemmas.List.Elements.{filter-append}
 use Rattle.std.proofs.ByRecursion.{All-weaker, All-map, all_kept_by}
 use Rattle.std.proofs.lemmas.List.{map-append}
@@ -47,6 +47,6 @@ module _ (t : Taker) where
   pub eligible_apart : (os : List Offered) → Apart (λ o. o.number.0) os → Apart named (eligible t os)
   eligible_apart os a k = let f = fewer k os in let h = a k in omega arith
 
-  pub eligible_sound : (lot : ℕ) (os : List Offered) → All (λ o. (is_price o.price.0 ≡ true) × (is_quantity lot o.left.0 ≡ true)) os → All (Sound lot) (eligible t os)
+  pub eligible_sound : (lot : ℕ) (os : List Offered) → AllByRecursion (λ o. (is_price o.price.0 ≡ true) × (is_quantity lot o.left.0 ≡ true)) os → AllByRecursion (Sound lot) (eligible t os)
   eligible_sound lot os a =
       All-map (Sound lot) as_eligible (filter (is_eligible t) os) (all_kept_by (is_eligible t) (λ o. Sound lot (as_eligible o)) os (All-weaker _ _ (λ o h. record { price = h.0; left = h.1 }) os a))

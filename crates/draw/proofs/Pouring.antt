@@ -1,7 +1,7 @@
 -- The fills that empty offers in their order: by places, as they are written, and the draw that they make up.
 use Rattle.std.proofs.Common.{◌≡◌, ℕ, ◌+◌, ◌-◌, ◌*◌, ◌<◌, ◌≤◌, min, Bool, true, false, cond, eqb, List, [], ◌∷◌, ◌++◌, map, length, get_or, take, drop, sum_by, count_by, sym, refl, ap, ◌∙◌, subst, ap₂, inl, inr, append_assoc, append-nil, zero-add, arith}
 use mathlib.Core.Path.{fun_ext}
-use Rattle.std.specs.List.{AllByRecursion as All}
+use Rattle.std.specs.List.{AllByRecursion}
 use Rattle.std.proofs.ByRecursion.{All-weaker}
 use Rattle.std.proofs.lemmas.List.{drop_more, drop_all}
 use Rattle.std.proofs.lemmas.List.Sums.{sum_by-cons}
@@ -75,7 +75,7 @@ taken_cons o os n k = elim (cases_eq n 0) [ inl e ↦ none e | inr h ↦ some h 
         ap (λ v. taken v k) (fills_cons o os n (omega arith))
         ∙ sum_by-cons (λ (f : Fill). cond (eqb k f.maker.0) f.quantity.0 0) (fill o (min n o.left.0)) (fills os (n - o.left.0))
 
-not_taken : (k : ℕ) (os : List Eligible) (n : ℕ) → All (λ o. named o ≡ k → ⊥) os → taken (fills os n) k ≡ 0
+not_taken : (k : ℕ) (os : List Eligible) (n : ℕ) → AllByRecursion (λ o. named o ≡ k → ⊥) os → taken (fills os n) k ≡ 0
 unfolding fills
 not_taken k [] n a = refl
 not_taken k (o ∷ os) n a =
@@ -123,8 +123,8 @@ fewer k = by_offers (λ os n fs. count_by (λ (f : Fill). eqb f.maker.0 k) fs �
     let r = sum_by-cons (λ (x : Eligible). cond (eqb (named x) k) 1 0) o os in
     omega arith)
 
-all_some : (os : List Eligible) (n : ℕ) → All (λ o. 0 < o.left.0) os → All (λ (f : Fill). 0 < f.quantity.0) (fills os n)
-all_some = by_offers (λ os n fs. All (λ o. 0 < o.left.0) os → All (λ (f : Fill). 0 < f.quantity.0) fs) (λ n a. tt) (λ o os a. tt) (λ o os n h e a. (let z = a.0 in omega arith, e a.1))
+all_some : (os : List Eligible) (n : ℕ) → AllByRecursion (λ o. 0 < o.left.0) os → AllByRecursion (λ (f : Fill). 0 < f.quantity.0) (fills os n)
+all_some = by_offers (λ os n fs. AllByRecursion (λ o. 0 < o.left.0) os → AllByRecursion (λ (f : Fill). 0 < f.quantity.0) fs) (λ n a. tt) (λ o os a. tt) (λ o os n h e a. (let z = a.0 in omega arith, e a.1))
 
 sum_units : (os : List Eligible) (n : ℕ) → sum_by (λ (f : Fill). f.quantity.0) (fills os n) ≡ min n (held os)
 unfolding held
@@ -136,7 +136,7 @@ unfolding cost
 sum_cash = by_offers (λ os n fs. sum_by (λ (f : Fill). f.price.0 * f.quantity.0) fs ≡ cost os n) (λ n. refl) (λ o os. sym (cost_zero (o ∷ os)))
     (λ o os n h e. let l = sum_by-cons (λ (f : Fill). f.price.0 * f.quantity.0) (fill o (min n o.left.0)) (fills os (n - o.left.0)) in omega arith)
 
-pub fills_up : (os : List Eligible) (n : ℕ) → Apart named os → All (λ o. 0 < o.left.0) os → FillsUp os n (fills os n)
+pub fills_up : (os : List Eligible) (n : ℕ) → Apart named os → AllByRecursion (λ o. 0 < o.left.0) os → FillsUp os n (fills os n)
 fills_up os n a s =
     let d = distinct_from_apart named os a in
     let t = poured_totals os n d in

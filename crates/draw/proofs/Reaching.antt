@@ -1,7 +1,7 @@
 -- The walk over ranked offers reaches the greatest size, in whole lots, at which the offers' first units are within the price.
 use Rattle.std.proofs.Common.{◌≡◌, ℕ, ◌+◌, ◌-◌, ◌*◌, ◌%◌, ◌<◌, ◌≤◌, min, Bool, true, false, cond, List, [], ◌∷◌, sym, refl, ap, ◌∙◌, inl, inr, add_assoc, zero-add, mul-add, arith}
 use native.Mathlib.Nat.{mul-mod_left, zero-mod}
-use Rattle.std.specs.List.{AllByRecursion as All}
+use Rattle.std.specs.List.{AllByRecursion}
 use Rattle.std.proofs.lemmas.Bool.{cases_lt}
 use Rattle.draw.specs.Sides.{NoWorse, no_worse}
 use Rattle.draw.specs.Walk.{room, part, walk}
@@ -90,7 +90,7 @@ module _ (s : Side) (lot price most : ℕ) (lots : 0 < lot) (o : Eligible) (os :
     abbrev worse : Worse s q price
     worse = worse_price s q price m n t i w
 
-    reach_no : All (λ later. NoWorse s q later.price.0) os → Reach s lot price most (o ∷ os) n m k₀
+    reach_no : AllByRecursion (λ later. NoWorse s q later.price.0) os → Reach s lot price most (o ∷ os) n m k₀
     unfolding held
     reach_no first =
         let r = part_room s lot price n m q t lots i w in
@@ -131,7 +131,7 @@ module _ (s : Side) (lot price most : ℕ) (lots : 0 < lot) (o : Eligible) (os :
 
 -- the walk from size n and money m
 pub walked : (s : Side) (lot price most : ℕ) → 0 < lot → (os : List Eligible) (n m : ℕ) →
-    most % lot ≡ 0 → All (λ o. o.left.0 % lot ≡ 0) os → PriceFirst s os → n ≤ most → n % lot ≡ 0 → NoWorse s m (price * n) →
+    most % lot ≡ 0 → AllByRecursion (λ o. o.left.0 % lot ≡ 0) os → PriceFirst s os → n ≤ most → n % lot ≡ 0 → NoWorse s m (price * n) →
     Walked s lot price most os n m (walk s lot price most os n m)
 unfolding walk cost held
 walked s lot price most lots [] n m wq wl f small wn i =

@@ -1,6 +1,6 @@
 -- Draws on a list of offers: what one takes, which are good, and the one that trades.
 use Rattle.std.specs.Prelude.{◌≡◌, ℕ, ◌-◌, ◌*◌, ◌%◌, ◌<◌, ◌≤◌, min, Bool, cond, List, [], ◌∷◌, Some, None, sum_by, Option, ◌==◌, ◌≢◌}
-use Rattle.std.specs.List.{AllByRecursion as All}
+use Rattle.std.specs.List.{AllByRecursion}
 use Rattle.units.specs.declared.side.Side.{Side}
 use Rattle.units.specs.declared.Quantity.{Quantity}
 use Rattle.units.specs.declared.Money.{Money}
@@ -25,8 +25,8 @@ totals os x = (record { 0 = size os x }, record { 0 = money os x })
 
 -- from each offer 0 up to what is left, in whole lots, and nothing from anything else
 pub record IsDraw (lot : ℕ) (os : List Eligible) (x : Draw) : Type 0 where
-  pub each : All (λ o. (x (named o) ≤ o.left.0) × (x (named o) % lot ≡ 0)) os
-  pub only : (k : ℕ) → All (λ o. named o ≢ k) os → x k ≡ 0
+  pub each : AllByRecursion (λ o. (x (named o) ≤ o.left.0) × (x (named o) % lot ≡ 0)) os
+  pub only : (k : ℕ) → AllByRecursion (λ o. named o ≢ k) os → x k ≡ 0
 
 -- within a price: the money is no worse than that price for every unit, to the last unit of money
 abbrev pub Within : Side → ℕ → List Eligible → Draw → Type 0

@@ -1,6 +1,6 @@
 -- The worked examples: one statement over their table, of what draws, rankings and statuses are, and not of how they are computed.
 use Rattle.std.specs.Prelude.{◌≡◌, ℕ, List, [], ◌∷◌, map, Some, None, Option}
-use Rattle.std.specs.List.{AllByRecursion as All}
+use Rattle.std.specs.List.{AllByRecursion}
 use Rattle.units.specs.declared.side.Side.{Side}
 use Rattle.units.specs.declared.side.Side.TheVariants.{Buy, Sell}
 use Rattle.units.specs.declared.Quantity.{Quantity}
@@ -90,4 +90,4 @@ table =
     ∷ []
 
 abbrev pub Worked : Type 0
-Worked = All Holds table
+Worked = AllByRecursion Holds table

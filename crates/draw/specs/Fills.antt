@@ -1,6 +1,6 @@
 -- Fills, and the draw that they make up.
 use Rattle.std.specs.Prelude.{◌≡◌, ℕ, ◌-◌, ◌*◌, ◌<◌, min, Bool, true, cond, List, [], ◌∷◌, map, length, take, is_some, Some, None, sum_by, Option, ◌==◌, ◌≢◌}
-use Rattle.std.specs.List.{AllByRecursion as All}
+use Rattle.std.specs.List.{AllByRecursion}
 use Rattle.units.specs.declared.side.Side.{Side}
 use Rattle.units.specs.declared.Quantity.{Quantity}
 use Rattle.units.specs.declared.Money.{Money}
@@ -35,7 +35,7 @@ pub record FillsUp (os : List Eligible) (n : ℕ) (fs : List Fill) : Type 0 wher
   pub drawn : taken fs ≡ poured os n
   pub in_order : map maker_of fs ≡ map offer_of (take (length fs) os)
   pub once : Apart (λ f. f.maker.0) fs
-  pub some : All (λ f. 0 < f.quantity.0) fs
+  pub some : AllByRecursion (λ f. 0 < f.quantity.0) fs
   pub units : sum_by (λ f. f.quantity.0) fs ≡ size os (poured os n)
   pub cash : sum_by (λ f. f.price.0 * f.quantity.0) fs ≡ money os (poured os n)
 

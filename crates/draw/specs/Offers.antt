@@ -1,6 +1,6 @@
 -- Which offers a request may draw on.
 use Rattle.std.specs.Prelude.{◌≡◌, ℕ, ◌<◌, Bool, true, false, cond, ◌&&◌, List, map, Some, None, filter, Option, ◌==◌}
-use Rattle.std.specs.List.{AllByRecursion as All}
+use Rattle.std.specs.List.{AllByRecursion}
 use Rattle.units.specs.declared.side.Side.{Side}
 use Rattle.units.specs.declared.side.Side.TheVariants as sides
 use Rattle.units.specs.Sides.{other}
@@ -55,10 +55,10 @@ pub record Sound (lot : ℕ) (o : Eligible) : Type 0 where
 pub record Ready (lot quantity : ℕ) (os : List Eligible) : Type 0 where
   pub lot_fits : is_lot lot ≡ true
   pub fits : is_quantity lot quantity ≡ true
-  pub sound : All (Sound lot) os
+  pub sound : AllByRecursion (Sound lot) os
   pub apart : Apart named os
 
 -- offers that can be emptied one after another: no number names two, and something is left of each
 pub record Pourable (os : List Eligible) : Type 0 where
   pub apart : Apart named os
-  pub some : All (λ o. 0 < o.left.0) os
+  pub some : AllByRecursion (λ o. 0 < o.left.0) os

@@ -1,6 +1,6 @@
 // Deciding what trades: one ranking of the eligible offers and one pass over them.
 ghost use Rattle.std.specs.Prelude.{◌≡◌, ◌≤◌, true, not, leb, length, take, drop, is_some, if◌then◌else◌, nat_le};
-ghost use Rattle.std.specs.List.{AllByRecursion as All};
+ghost use Rattle.std.specs.List.{AllByRecursion};
 ghost use Rattle.units.specs.Ranges.{is_price};
 ghost use Rattle.ranked.specs.Lists.{Apart, ranked};
 ghost use Rattle.draw.specs.Offers.{Ready, Pourable, named};
@@ -129,7 +129,7 @@ fn rank_and_total<R: OfferRanking>(
     quantity: Quantity,
 ) -> (Quantity, Money)
     requires places { n ≤ length offers.old }
-    requires prices { All (λ o. is_price o.price.0 ≡ true) (take n offers.old) }
+    requires prices { AllByRecursion (λ o. is_price o.price.0 ≡ true) (take n offers.old) }
     requires apart { Apart named (take n offers.old) }
     requires quantity { quantity.0 ≤ 1000000 }
     ensures result { Shows (R.favours rule.now) (R.Ranking.before rule.now) quantity.0 (take n offers.old) result }
@@ -148,7 +148,7 @@ pub fn total_status<R: OfferRanking>(
     quantity: Quantity,
 ) -> (Quantity, Money)
     requires places { n ≤ length offers.old }
-    requires prices { All (λ o. is_price o.price.0 ≡ true) (take n offers.old) }
+    requires prices { AllByRecursion (λ o. is_price o.price.0 ≡ true) (take n offers.old) }
     requires apart { Apart named (take n offers.old) }
     requires quantity { quantity.0 ≤ 1000000 }
     ensures result { Shows (R.favours rule.now) (R.Ranking.before rule.now) quantity.0 (take n offers.old) result }

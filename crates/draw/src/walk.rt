@@ -1,6 +1,6 @@
 // The walk over ranked offers: size and money of what trades, in one pass.
 ghost use Rattle.std.specs.Prelude.{◌≡◌, ◌+◌, ◌-◌, ◌*◌, ◌^◌, ◌<◌, ◌≤◌, min, true};
-ghost use Rattle.std.specs.List.{AllByRecursion as All};
+ghost use Rattle.std.specs.List.{AllByRecursion};
 ghost use Rattle.units.specs.Ranges.{is_price, is_quantity, is_lot};
 ghost use Rattle.draw.specs.Sides.{no_worse};
 ghost use Rattle.ranked.specs.Lists.{Apart};
@@ -69,7 +69,7 @@ pub(crate) fn walk(
     most: Quantity,
 ) -> (Quantity, Money)
     requires lot { is_lot lot.0 ≡ true }
-    requires offers { All (Sound lot.0) offers.now }
+    requires offers { AllByRecursion (Sound lot.0) offers.now }
     requires price { is_price price.0 ≡ true }
     requires most { is_quantity lot.0 most.0 ≡ true }
     ensures size { result.0.0 ≡ (walk side lot.0 price.0 most.0 offers.now 0 0).0 }
@@ -88,7 +88,7 @@ pub(crate) fn walk(
 
 // The first units of the offers in their order: `most` of them, or all there are.
 pub(crate) fn first_units(offers: &[Eligible], most: Quantity) -> (Quantity, Money)
-    requires prices { All (λ o. is_price o.price.0 ≡ true) offers.now }
+    requires prices { AllByRecursion (λ o. is_price o.price.0 ≡ true) offers.now }
     requires apart { Apart named offers.now }
     requires most { most.0 ≤ 1000000 }
     ensures value { result ≡ totals offers.now (poured offers.now most.0) }

@@ -1,6 +1,6 @@
 -- What the checks say of a message that passes them, and the state with what came.
 use Rattle.std.proofs.Common.{◌≡◌, ℕ, ◌+◌, ◌%◌, ◌<◌, ◌≤◌, max, Bool, true, false, cond, not, eqb, List, [], ◌∷◌, ◌++◌, Some, None, sym, refl, ap, ◌∙◌, ap₂, inl, inr, arith}
-use Rattle.std.specs.List.{AllByRecursion as All}
+use Rattle.std.specs.List.{AllByRecursion}
 use Rattle.std.proofs.ByRecursion.{All-append}
 use Rattle.std.proofs.lemmas.Bool.{eqb-true, cases_lt, or_parts, not-false, both_ways}
 use Rattle.units.specs.declared.side.Side.TheVariants.{Buy, Sell}
@@ -22,11 +22,11 @@ use Rattle.rules.proofs.Fine.{Sound, Lots, counted}
 use Rattle.rules.proofs.Keeps.{Asks}
 
 -- where no refusal is called for, each check is passed
-pub passed : (cs : List Check) → first_failed cs ≡ None → All (λ (c : Check). c.1 ≡ false) cs
+pub passed : (cs : List Check) → first_failed cs ≡ None → AllByRecursion (λ (c : Check). c.1 ≡ false) cs
 passed [] e = tt
 passed (c ∷ cs) e = go c.1 refl e (passed cs)
   where
-    go : (b : Bool) → c.1 ≡ b → cond b (Some c.0) (first_failed cs) ≡ None → (first_failed cs ≡ None → All (λ (c : Check). c.1 ≡ false) cs) → (c.1 ≡ false) × All (λ (c : Check). c.1 ≡ false) cs
+    go : (b : Bool) → c.1 ≡ b → cond b (Some c.0) (first_failed cs) ≡ None → (first_failed cs ≡ None → AllByRecursion (λ (c : Check). c.1 ≡ false) cs) → (c.1 ≡ false) × AllByRecursion (λ (c : Check). c.1 ≡ false) cs
     go true f e h = let z : ◌≡◌ {A = ℕ} 0 1 = cc in absurd (omega arith)
     go false f e h = (f, h e)
 
@@ -53,7 +53,7 @@ any_some p (x ∷ xs) e = refl
 pub passes : (s : State) (m : Sent) → refusal s m ≡ None → Passes s m.call
 passes s m e = go m.call (passed (all_checks s m) e).1.1.1
   where
-    go : (c : Call) → All (λ (x : Check). x.1 ≡ false) (checks s c) → Passes s c
+    go : (c : Call) → AllByRecursion (λ (x : Check). x.1 ≡ false) (checks s c) → Passes s c
     go (order f d p q) h = (amount _ _ h.1.1.0, h.1.1.1.0)
     go (withdrawal f k) h = tt
     go (manual f d q n w) h = amount _ _ h.1.0
@@ -96,10 +96,10 @@ brings_lots s (clock w) n t h = no_lots _
 
 -- and the number given
 pub record NewsNamed (n : ℕ) (w : News) : Type 0 where
-  pub buys : All (λ (o : Offer). o.number.0 ≡ n) w.buys
-  pub sells : All (λ (o : Offer). o.number.0 ≡ n) w.sells
-  pub answers : All (λ (a : Answer). a.number.0 ≡ n) w.answers
-  pub requests : All (λ (r : Request). r.number.0 ≡ n) w.requests
+  pub buys : AllByRecursion (λ (o : Offer). o.number.0 ≡ n) w.buys
+  pub sells : AllByRecursion (λ (o : Offer). o.number.0 ≡ n) w.sells
+  pub answers : AllByRecursion (λ (a : Answer). a.number.0 ≡ n) w.answers
+  pub requests : AllByRecursion (λ (r : Request). r.number.0 ≡ n) w.requests
 
 no_names : (n : ℕ) → NewsNamed n nothing
 no_names n = record { buys = tt; sells = tt; answers = tt; requests = tt }

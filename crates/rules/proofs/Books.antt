@@ -1,6 +1,6 @@
 -- A take is one fill, a removal one kill.
 use Rattle.std.proofs.Common.{◌≡◌, ℕ, ◌-◌, ◌<◌, ◌≤◌, Bool, true, false, cond, eqb, List, [], ◌∷◌, sym, refl, ap, ◌∙◌, ap₂, arith}
-use Rattle.std.specs.List.{AllByRecursion as All}
+use Rattle.std.specs.List.{AllByRecursion}
 use Rattle.std.proofs.ByRecursion.{All-weaker}
 use Rattle.std.proofs.lemmas.Bool.{cond-true, cond-false, eq-eqb, ne_eqb, eqb-true, eqb-false, lt-ltb, le-ltb}
 use Rattle.book.specs.declared.Offer.{Offer}
@@ -24,19 +24,19 @@ unfolding filled killed
 one_kill reason n a k = omega arith
 
 -- a list that a report does not touch
-untouched : (rs : List Report) (os : List Offer) → Listed os → All (λ (x : Offer). touched rs x.number.0 ≡ 0) os → remain an_offer rs os ≡ os
+untouched : (rs : List Report) (os : List Offer) → Listed os → AllByRecursion (λ (x : Offer). touched rs x.number.0 ≡ 0) os → remain an_offer rs os ≡ os
 untouched rs os w a = remain_same an_offer offer_laws rs os (both os w a)
   where
-    both : (os : List Offer) → Listed os → All (λ (x : Offer). touched rs x.number.0 ≡ 0) os → All (λ (x : Offer). (0 < x.left.0) × (touched rs x.number.0 ≡ 0)) os
+    both : (os : List Offer) → Listed os → AllByRecursion (λ (x : Offer). touched rs x.number.0 ≡ 0) os → AllByRecursion (λ (x : Offer). (0 < x.left.0) × (touched rs x.number.0 ≡ 0)) os
     both [] w a = tt
     both (o ∷ os) w a = ((w.1, a.0), both os w.2 a.1)
 
 -- a report that takes a of the number n, and nothing of others in the list
 module _ (rs : List Report) (n a : ℕ) where
   abbrev Takes : List Offer → Type 0
-  Takes os = All (λ (x : Offer). touched rs x.number.0 ≡ cond (eqb n x.number.0) a 0) os
+  Takes os = AllByRecursion (λ (x : Offer). touched rs x.number.0 ≡ cond (eqb n x.number.0) a 0) os
 
-  others : (os : List Offer) → All (λ (x : Offer). x.number.0 ≡ n → ⊥) os → Takes os → All (λ (x : Offer). touched rs x.number.0 ≡ 0) os
+  others : (os : List Offer) → AllByRecursion (λ (x : Offer). x.number.0 ≡ n → ⊥) os → Takes os → AllByRecursion (λ (x : Offer). touched rs x.number.0 ≡ 0) os
   others [] ne t = tt
   others (o ∷ os) ne t = (t.0 ∙ cond-false _ _ _ (ne_eqb n o.number.0 (λ e. ne.0 (sym e))), others os ne.1 t.1)
 

@@ -1,7 +1,7 @@
 -- The fills of a request are what the rules name.
 use Rattle.std.proofs.Common.{◌≡◌, ℕ, ◌+◌, ◌%◌, ◌<◌, ◌≤◌, Bool, true, false, cond, eqb, leb, List, [], ◌∷◌, ◌++◌, map, Some, None, filter, Option, sym, refl, ap, ◌∙◌, subst, arith}
 use native.Mathlib.Nat.{zero-mod}
-use Rattle.std.specs.List.{AllByRecursion as All}
+use Rattle.std.specs.List.{AllByRecursion}
 use Rattle.std.proofs.lemmas.List.Sums.{sum_by-cons}
 use Rattle.std.proofs.ByRecursion.{All-weaker, All-append, all_kept_by, All-map, all_shuffled}
 use Rattle.std.proofs.lemmas.Bool.{leb-true, leb-false}
@@ -78,7 +78,7 @@ fair_decided d os IsGood (Some r) apart some h = record {
         let p = some h.0 h.1.good in
         omega arith
 
-whole_size : (lot : ℕ) (os : List Eligible) (x : Draw) → All (λ o. (x (named o) ≤ o.left.0) × (x (named o) % lot ≡ 0)) os → size os x % lot ≡ 0
+whole_size : (lot : ℕ) (os : List Eligible) (x : Draw) → AllByRecursion (λ o. (x (named o) ≤ o.left.0) × (x (named o) % lot ≡ 0)) os → size os x % lot ≡ 0
 whole_size lot [] x a = zero-mod lot
 whole_size lot (o ∷ os) x a =
     subst (λ (m : ℕ). m % lot ≡ 0) (sym (sum_by-cons (λ (y : Eligible). x (named y)) o os)) (whole_add lot (x (named o)) (size os x) a.0.1 (whole_size lot os x a.1))
@@ -132,7 +132,7 @@ module _ (s : State) (r : Request) (d : Side) where
       omega arith
 
   module _ (g : Sound s) where
-    on_whole : All (λ o. o.left.0 % s.book.lot ≡ 0) on
+    on_whole : AllByRecursion (λ o. o.left.0 % s.book.lot ≡ 0) on
     on_whole =
         All-map _ as_eligible (filter (is_eligible (taker_of r d)) all) (all_kept_by _ _ all
         (All-append _ (map (from_book Buy) s.book.buys) _ (All-map _ (from_book Buy) s.book.buys (All-weaker _ _ (λ x h. h.1) s.book.buys g.buys))

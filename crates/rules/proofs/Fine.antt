@@ -1,6 +1,6 @@
 -- States in order, and reports that take no more than is there, in whole lots.
 use Rattle.std.proofs.Common.{◌≡◌, ℕ, ◌+◌, ◌%◌, ◌<◌, ◌≤◌, eqb, ◌⊎◌, List, [], ◌∷◌, ◌++◌, refl, inl, inr, arith}
-use Rattle.std.specs.List.{AllByRecursion as All}
+use Rattle.std.specs.List.{AllByRecursion}
 use Rattle.std.proofs.ByRecursion.{All-append, all_kept_by, all_shuffled}
 use Rattle.std.proofs.lemmas.Bool.{cases_eq}
 use Rattle.ranked.proofs.Placing.{ranked_shuffled}
@@ -20,7 +20,7 @@ use Rattle.rules.proofs.Left.{touched, touched_append, KeptLaws, count, came_non
 use Rattle.rules.proofs.Pours.{Whole, came_kept, came_shuffled, touched_kills, whole_kills, touched_whole}
 
 abbrev pub Lots : {X : Type 0} → Kept X → ℕ → List X → Type 0
-Lots k lot xs = All (λ x. (0 < k.left x) × (k.left x % lot ≡ 0)) xs
+Lots k lot xs = AllByRecursion (λ x. (0 < k.left x) × (k.left x % lot ≡ 0)) xs
 
 pub offer_laws : KeptLaws an_offer
 offer_laws = record { number_with = λ x n. refl; left_with = λ x n. refl; twice = λ x a b. refl; same = λ x. refl }

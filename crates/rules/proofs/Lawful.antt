@@ -1,6 +1,6 @@
 -- The law of runs, about the step.
 use Rattle.std.proofs.Common.{◌≡◌, ℕ, ◌+◌, ◌<◌, ◌≤◌, min, max, Bool, true, false, cond, not, eqb, leb, List, [], ◌∷◌, ◌++◌, map, Some, None, Err, Option, sym, refl, ap, ◌∙◌, subst, append_assoc, append-nil, arith}
-use Rattle.std.specs.List.{AllByRecursion as All}
+use Rattle.std.specs.List.{AllByRecursion}
 use Rattle.std.proofs.ByRecursion.{All-weaker, kept_by_passes, all_shuffled}
 use Rattle.std.proofs.lemmas.List.Sorted.{sum_by-IsPermutation}
 use Rattle.std.proofs.lemmas.Bool.{cond-false, ne_eqb, eqb-true, or_parts, and_parts, not-true, both_ways}
@@ -133,7 +133,7 @@ accepts (clock w) l b n g h = (
     there : Sound after_them
     there = subst Sound (ap (λ (z : List Report). less z s) eE ∙ told_less l b X) (less_sound s (expiries t s) g (expiries_fine t s g).whole)
 
-    clean : (rs : List Request) → All (λ (r : Request). fills_by r.number.0 X ≡ []) rs
+    clean : (rs : List Request) → AllByRecursion (λ (r : Request). fills_by r.number.0 X ≡ []) rs
     clean [] = tt
     clean (r ∷ rs) = (expired_others (expiring t (open_requests l)) l r.number.0, clean rs)
 
@@ -147,10 +147,10 @@ pub record Inv (o : Opening) (es : List Event) (s : State) : Type 0 where
   pub each : Each o es
 
 -- what comes under a fresh number stays whole
-untouched : {X : Type 0} (k : Kept X) (w : KeptLaws k) (R : List Report) (lot n : ℕ) → touched R n ≡ 0 → (xs : List X) → Lots k lot xs → All (λ x. k.number x ≡ n) xs → remain k R xs ≡ xs
+untouched : {X : Type 0} (k : Kept X) (w : KeptLaws k) (R : List Report) (lot n : ℕ) → touched R n ≡ 0 → (xs : List X) → Lots k lot xs → AllByRecursion (λ x. k.number x ≡ n) xs → remain k R xs ≡ xs
 untouched k w R lot n z xs a b = remain_same k w R xs (both xs a b)
   where
-    both : (xs : List _) → Lots k lot xs → All (λ x. k.number x ≡ n) xs → All (λ x. (0 < k.left x) × (touched R (k.number x) ≡ 0)) xs
+    both : (xs : List _) → Lots k lot xs → AllByRecursion (λ x. k.number x ≡ n) xs → AllByRecursion (λ x. (0 < k.left x) × (touched R (k.number x) ≡ 0)) xs
     both [] a b = tt
     both (x ∷ xs) a b = ((a.0.0, ap (touched R) b.0 ∙ z), both xs a.1 b.1)
 
@@ -214,7 +214,7 @@ module _ (o : Opening) (es : List Event) (t : State) (v : Inv o es t) where
     named = brings_named c n t.time
 
     -- received by the state is received by the ledger
-    join : {X : Type 0} (k : Kept X) (w : KeptLaws k) (f : News → List X) (xs : List X) → Lots k t.book.lot (f new) → All (λ x. k.number x ≡ n) (f new) →
+    join : {X : Type 0} (k : Kept X) (w : KeptLaws k) (f : News → List X) (xs : List X) → Lots k t.book.lot (f new) → AllByRecursion (λ x. k.number x ≡ n) (f new) →
         remain k l.reports xs ++ f new ≡ remain k l.reports (xs ++ f (brings c (given c n) (time es)))
     join {X} k w f xs a b =
         ap (λ (z : List X). remain k l.reports xs ++ z) (sym (untouched k w l.reports t.book.lot n new_stay (f new) a b))

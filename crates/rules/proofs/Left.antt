@@ -1,6 +1,6 @@
 -- What reports leave of lists of records.
 use Rattle.std.proofs.Common.{◌≡◌, ℕ, ◌+◌, ◌-◌, ◌%◌, ◌<◌, ◌≤◌, Bool, true, false, cond, eqb, ltb, List, [], ◌∷◌, ◌++◌, sym, refl, ap, ◌∙◌, subst, ap₂, arith}
-use Rattle.std.specs.List.{AllByRecursion as All}
+use Rattle.std.specs.List.{AllByRecursion}
 use Rattle.std.proofs.lemmas.Bool.{cond-true, cond-false, eqb-true, lt-ltb, le-ltb, ltb-true, ltb-false}
 use Rattle.rules.specs.declared.reports.Report.{Report}
 use Rattle.rules.specs.State.{Kept}
@@ -95,7 +95,7 @@ module _ {X : Type 0} (k : Kept X) where
             h ∙ sym (cond-false _ _ _ (le-ltb 0 (rest k (a ++ b) x) (omega arith)))
 
     -- untouched records stay
-    pub remain_same : (rs : List Report) (xs : List X) → All (λ x. (0 < k.left x) × (touched rs (k.number x) ≡ 0)) xs → remain k rs xs ≡ xs
+    pub remain_same : (rs : List Report) (xs : List X) → AllByRecursion (λ x. (0 < k.left x) × (touched rs (k.number x) ≡ 0)) xs → remain k rs xs ≡ xs
     unfolding remain
     remain_same rs [] a = refl
     remain_same rs (x ∷ xs) a =
@@ -151,13 +151,13 @@ module _ {X : Type 0} (k : Kept X) where
 
     -- positive and whole lots
     pub whole_remain : (lot : ℕ) (rs : List Report) (xs : List X) → ((a b : ℕ) → a % lot ≡ 0 → b % lot ≡ 0 → (a - b) % lot ≡ 0) → ((n : ℕ) → touched rs n % lot ≡ 0) →
-        All (λ x. (0 < k.left x) × (k.left x % lot ≡ 0)) xs → All (λ x. (0 < k.left x) × (k.left x % lot ≡ 0)) (remain k rs xs)
+        AllByRecursion (λ x. (0 < k.left x) × (k.left x % lot ≡ 0)) xs → AllByRecursion (λ x. (0 < k.left x) × (k.left x % lot ≡ 0)) (remain k rs xs)
     unfolding remain
     whole_remain lot rs [] sub t a = tt
     whole_remain lot rs (x ∷ xs) sub t a = go (ltb 0 (rest k rs x)) refl (whole_remain lot rs xs sub t a.1)
       where
-        go : (b : Bool) → ltb 0 (rest k rs x) ≡ b → All (λ x. (0 < k.left x) × (k.left x % lot ≡ 0)) (remain k rs xs) →
-            All (λ x. (0 < k.left x) × (k.left x % lot ≡ 0)) (cond b (k.with_left x (rest k rs x) ∷ remain k rs xs) (remain k rs xs))
+        go : (b : Bool) → ltb 0 (rest k rs x) ≡ b → AllByRecursion (λ x. (0 < k.left x) × (k.left x % lot ≡ 0)) (remain k rs xs) →
+            AllByRecursion (λ x. (0 < k.left x) × (k.left x % lot ≡ 0)) (cond b (k.with_left x (rest k rs x) ∷ remain k rs xs) (remain k rs xs))
         go true e h = (
           subst (λ (m : ℕ). (0 < m) × (m % lot ≡ 0)) (sym (w.left_with x (rest k rs x))) (ltb-true 0 (rest k rs x) e, sub (k.left x) (touched rs (k.number x)) a.0.1 (t (k.number x))),
           h,

@@ -1,7 +1,7 @@
 -- What fills and kills take, under each number.
 use Rattle.std.proofs.Common.{◌≡◌, ℕ, ◌+◌, ◌-◌, ◌%◌, ◌<◌, ◌≤◌, min, Bool, true, false, cond, eqb, List, [], ◌∷◌, ◌++◌, map, length, sum_by, filter, sym, refl, ap, ◌∙◌, subst, ap₂, inl, inr, arith}
 use native.Mathlib.Nat.{zero-mod}
-use Rattle.std.specs.List.{AllByRecursion as All}
+use Rattle.std.specs.List.{AllByRecursion}
 use Rattle.std.specs.List.Sorted.{IsPermutation}
 use Rattle.std.proofs.lemmas.List.Sums.{sum_by-cons}
 use Rattle.std.proofs.lemmas.List.Sorted.{sum_by-IsPermutation}
@@ -30,7 +30,7 @@ amount_in (report.Fill t f) = f.quantity.0
 amount_in (report.Kill reason k q) = q.0
 
 abbrev pub Whole : ℕ → List Report → Type 0
-Whole lot rs = All (λ (r : Report). amount_in r % lot ≡ 0) rs
+Whole lot rs = AllByRecursion (λ (r : Report). amount_in r % lot ≡ 0) rs
 
 module _ {X : Type 0} (k : Kept X) where
   pub came_sum : (xs : List X) (n : ℕ) → came_as k xs n ≡ sum_by (λ x. cond (eqb (k.number x) n) (k.left x) 0) xs
@@ -78,7 +78,7 @@ module _ {X : Type 0} (k : Kept X) where
   fills_by_kills t reason [] = refl
   fills_by_kills t reason (x ∷ xs) = fills_by_kills t reason xs
 
-  pub whole_kills : (lot : ℕ) (reason : KillReason) (xs : List X) → All (λ x. (0 < k.left x) × (k.left x % lot ≡ 0)) xs → Whole lot (kills k reason xs)
+  pub whole_kills : (lot : ℕ) (reason : KillReason) (xs : List X) → AllByRecursion (λ x. (0 < k.left x) × (k.left x % lot ≡ 0)) xs → Whole lot (kills k reason xs)
   whole_kills lot reason [] a = tt
   whole_kills lot reason (x ∷ xs) a = (a.0.1, whole_kills lot reason xs a.1)
 
@@ -211,7 +211,7 @@ fills_units (o ∷ os) n = go (eqb n 0) refl (fills_units os (n - o.left.0))
         let v = sum_by-cons (λ (x : Eligible). x.left.0) o os in
         omega arith
 
-pub fills_whole_lots : (lot : ℕ) (t : ℕ) (os : List Eligible) (n : ℕ) → n % lot ≡ 0 → All (λ o. o.left.0 % lot ≡ 0) os → Whole lot (pour t os n)
+pub fills_whole_lots : (lot : ℕ) (t : ℕ) (os : List Eligible) (n : ℕ) → n % lot ≡ 0 → AllByRecursion (λ o. o.left.0 % lot ≡ 0) os → Whole lot (pour t os n)
 unfolding fills
 fills_whole_lots lot t [] n w a = tt
 fills_whole_lots lot t (o ∷ os) n w a = go (eqb n 0) (fills_whole_lots lot t os (n - o.left.0) (whole_sub lot n o.left.0 w a.0) a.1)
@@ -224,7 +224,7 @@ fills_whole_lots lot t (o ∷ os) n w a = go (eqb n 0) (fills_whole_lots lot t o
     go false h = (whole_min lot n o.left.0 w a.0, h)
 
 -- each at the price of its offer
-pub fills_prices : (P : ℕ → Type 0) (os : List Eligible) (n : ℕ) → All (λ o. P o.price.0) os → All (λ (f : Fill). P f.price.0) (fills os n)
+pub fills_prices : (P : ℕ → Type 0) (os : List Eligible) (n : ℕ) → AllByRecursion (λ o. P o.price.0) os → AllByRecursion (λ (f : Fill). P f.price.0) (fills os n)
 unfolding fills
 fills_prices P [] n a = tt
 fills_prices P (o ∷ os) n a = go (eqb n 0) (fills_prices P os (n - o.left.0) a.1)
@@ -232,7 +232,7 @@ fills_prices P (o ∷ os) n a = go (eqb n 0) (fills_prices P os (n - o.left.0) a
     f : Fill
     f = record { maker = o.number; price = o.price; quantity = record { 0 = min n o.left.0 } }
 
-    go : (b : Bool) → All (λ (g : Fill). P g.price.0) (fills os (n - o.left.0)) → All (λ (g : Fill). P g.price.0) (cond b [] (f ∷ fills os (n - o.left.0)))
+    go : (b : Bool) → AllByRecursion (λ (g : Fill). P g.price.0) (fills os (n - o.left.0)) → AllByRecursion (λ (g : Fill). P g.price.0) (cond b [] (f ∷ fills os (n - o.left.0)))
     go true h = tt
     go false h = (a.0, h)
 

@@ -1,6 +1,6 @@
 -- How many reports a message has.
 use Rattle.std.proofs.Common.{◌≡◌, ℕ, ◌+◌, ◌*◌, ◌%◌, ◌≤◌, Bool, true, false, cond, ◌&&◌, eqb, ltb, leb, List, [], ◌∷◌, ◌++◌, map, length, Some, None, filter, Option, sym, refl, ap, ◌∙◌, subst, arith}
-use Rattle.std.specs.List.{AllByRecursion as All}
+use Rattle.std.specs.List.{AllByRecursion}
 use Rattle.std.proofs.lemmas.List.Elements.{filter-append}
 use Rattle.std.proofs.lemmas.List.{length-append, length-map}
 use Rattle.std.proofs.lemmas.Bool.{leb-false}
@@ -155,7 +155,7 @@ Roomy s (clock w) = Unit {0}
 roomy : (s : State) (m : Sent) → refusal s m ≡ None → Roomy s m.call
 roomy s m e = go m.call (passed (all_checks s m) e).1.1.1
   where
-    go : (c : Call) → All (λ (x : Check). x.1 ≡ false) (checks s c) → Roomy s c
+    go : (c : Call) → AllByRecursion (λ (x : Check). x.1 ≡ false) (checks s c) → Roomy s c
     go (order f d p q) h = h.1.1.1.1.0
     go (withdrawal f k) h = tt
     go (manual f d q n w) h = h.1.1.1.1.0

@@ -1,6 +1,6 @@
 -- Soundness is kept, and suffices.
 use Rattle.std.proofs.Common.{◌≡◌, ℕ, ◌+◌, ◌*◌, ◌%◌, ◌<◌, ◌≤◌, Bool, true, false, cond, not, ◌&&◌, ◌||◌, eqb, ltb, leb, List, [], ◌∷◌, ◌++◌, map, length, Some, None, filter, Option, sym, refl, subst, ap₂, arith}
-use Rattle.std.specs.List.{AllByRecursion as All}
+use Rattle.std.specs.List.{AllByRecursion}
 use Rattle.std.proofs.ByRecursion.{All-append, All-map, all_kept_by, All-weaker, all_shuffled}
 use Rattle.std.proofs.lemmas.Bool.{and_parts, and_from, le-leb, eq-eqb, not-false, not_from_false, ltb-true, cond-true}
 use Rattle.units.specs.declared.side.Side.{Side}
@@ -76,27 +76,27 @@ shape_lots a b c lot l e = let q = quantity_bounds lot l (quantity_part a b c lo
 -- what reports in whole lots leave keeps such tests
 remain_all : {X : Type 0} (k : Kept X) (P : X → Type 0) (lot : ℕ) → ((x : X) → P x → k.left x % lot ≡ 0) →
     ((x : X) (n : ℕ) → P x → 0 < n → n ≤ k.left x → n % lot ≡ 0 → P (k.with_left x n)) →
-    (rs : List Report) → ((n : ℕ) → touched rs n % lot ≡ 0) → (xs : List X) → All P xs → All P (remain k rs xs)
+    (rs : List Report) → ((n : ℕ) → touched rs n % lot ≡ 0) → (xs : List X) → AllByRecursion P xs → AllByRecursion P (remain k rs xs)
 unfolding remain
 remain_all k P lot whole closed rs t [] a = tt
 remain_all k P lot whole closed rs t (x ∷ xs) a = go (ltb 0 (rest k rs x)) refl (remain_all k P lot whole closed rs t xs a.1)
   where
-    go : (b : Bool) → ltb 0 (rest k rs x) ≡ b → All P (remain k rs xs) → All P (cond b (k.with_left x (rest k rs x) ∷ remain k rs xs) (remain k rs xs))
+    go : (b : Bool) → ltb 0 (rest k rs x) ≡ b → AllByRecursion P (remain k rs xs) → AllByRecursion P (cond b (k.with_left x (rest k rs x) ∷ remain k rs xs) (remain k rs xs))
     go true e h = (closed x (rest k rs x) a.0 (ltb-true _ _ e) (omega arith) (whole_sub lot (k.left x) (touched rs (k.number x)) (whole x a.0) (t (k.number x))), h)
     go false e h = h
 
 -- ── ranges ──
 
 record Ranged (lot : ℕ) (bs ss : List Offer) (xs : List Answer) (rs : List Request) : Type 0 where
-  buys : All (λ (o : Offer). in_range lot o ≡ true) bs
-  sells : All (λ (o : Offer). in_range lot o ≡ true) ss
-  answers : All (λ (a : Answer). answer_in_range lot a ≡ true) xs
-  requests : All (λ (r : Request). request_in_range lot r ≡ true) rs
+  buys : AllByRecursion (λ (o : Offer). in_range lot o ≡ true) bs
+  sells : AllByRecursion (λ (o : Offer). in_range lot o ≡ true) ss
+  answers : AllByRecursion (λ (a : Answer). answer_in_range lot a ≡ true) xs
+  requests : AllByRecursion (λ (r : Request). request_in_range lot r ≡ true) rs
 
 abbrev RangedIn : State → Type 0
 RangedIn s = Ranged s.book.lot s.book.buys s.book.sells s.answers s.requests
 
-offers_less : (lot : ℕ) (rs : List Report) → Whole lot rs → (xs : List Offer) → All (λ (o : Offer). in_range lot o ≡ true) xs → All (λ (o : Offer). in_range lot o ≡ true) (remain an_offer rs xs)
+offers_less : (lot : ℕ) (rs : List Report) → Whole lot rs → (xs : List Offer) → AllByRecursion (λ (o : Offer). in_range lot o ≡ true) xs → AllByRecursion (λ (o : Offer). in_range lot o ≡ true) (remain an_offer rs xs)
 offers_less lot rs w xs a =
     remain_all an_offer (λ (o : Offer). in_range lot o ≡ true) lot (λ o e. (shape_lots (is_number o.number.0) (leb o.firm.0 255) (is_price o.price.0) lot o.left.0 e).1) (λ o n e p m v. less_left (is_number o.number.0) (leb o.firm.0 255) (is_price o.price.0) lot o.left.0 n e p m v) rs (touched_whole lot rs w) xs a
 
@@ -118,7 +118,7 @@ none_ranged : (lot : ℕ) → NewsRanged lot nothing
 none_ranged lot = record { buys = tt; sells = tt; answers = tt; requests = tt }
 
 abbrev Free : List Check → Type 0
-Free cs = All (λ (c : Check). c.1 ≡ false) cs
+Free cs = AllByRecursion (λ (c : Check). c.1 ≡ false) cs
 
 four : (a b c d : Bool) → a ≡ true → b ≡ true → c ≡ true → d ≡ true → (a && (b && (c && d))) ≡ true
 four a b c d h i j k = and_from a _ h (and_from b _ i (and_from c d j k))
@@ -153,11 +153,11 @@ ranged_received s c e h r =
 
 -- ── tests over lists ──
 
-all_from_test : (lot : ℕ) (xs : List Offer) → book.all_in_range lot xs ≡ true → All (λ (o : Offer). in_range lot o ≡ true) xs
+all_from_test : (lot : ℕ) (xs : List Offer) → book.all_in_range lot xs ≡ true → AllByRecursion (λ (o : Offer). in_range lot o ≡ true) xs
 all_from_test lot [] e = tt
 all_from_test lot (x ∷ xs) e = let p = and_parts (in_range lot x) _ e in (p.0, all_from_test lot xs p.1)
 
-test_from_all : (lot : ℕ) (xs : List Offer) → All (λ (o : Offer). in_range lot o ≡ true) xs → book.all_in_range lot xs ≡ true
+test_from_all : (lot : ℕ) (xs : List Offer) → AllByRecursion (λ (o : Offer). in_range lot o ≡ true) xs → book.all_in_range lot xs ≡ true
 test_from_all lot [] a = refl
 test_from_all lot (x ∷ xs) a = and_from (in_range lot x) _ a.0 (test_from_all lot xs a.1)
 
@@ -203,11 +203,11 @@ in_parts s g = (
   record { buys = all_from_test _ _ (g.book.ranged Buy); sells = all_from_test _ _ (g.book.ranged Sell); answers = g.answers; requests = g.requests },
 )
   where
-    lots_answers : (xs : List Answer) → All (λ (a : Answer). answer_in_range s.book.lot a ≡ true) xs → fine.Lots an_answer s.book.lot xs
+    lots_answers : (xs : List Answer) → AllByRecursion (λ (a : Answer). answer_in_range s.book.lot a ≡ true) xs → fine.Lots an_answer s.book.lot xs
     lots_answers [] a = tt
     lots_answers (x ∷ xs) a = (shape_lots (is_number x.number.0) (is_member x.firm.0) (is_price x.price.0) s.book.lot x.left.0 a.0, lots_answers xs a.1)
 
-    lots_requests : (xs : List Request) → All (λ (a : Request). request_in_range s.book.lot a ≡ true) xs → fine.Lots a_request s.book.lot xs
+    lots_requests : (xs : List Request) → AllByRecursion (λ (a : Request). request_in_range s.book.lot a ≡ true) xs → fine.Lots a_request s.book.lot xs
     lots_requests [] a = tt
     lots_requests (x ∷ xs) a = (shape_lots (is_number x.number.0) (is_member x.firm.0) (limit_in_range x.terms) s.book.lot x.left.0 a.0, lots_requests xs a.1)
 
@@ -264,7 +264,7 @@ sound_is_kept = record { at_opening = opened_is_sound; by_messages = step_keeps_
 -- ── it suffices ──
 
 -- a record that is found is one of the list
-found : {X : Type 0} (P : X → Type 0) (k : Kept X) (n : ℕ) (xs : List X) (x : X) → All P xs → first (under k n xs) ≡ Some x → P x
+found : {X : Type 0} (P : X → Type 0) (k : Kept X) (n : ℕ) (xs : List X) (x : X) → AllByRecursion P xs → first (under k n xs) ≡ Some x → P x
 found P k n [] x a e = let z : ◌≡◌ {A = ℕ} 0 1 = cc in absurd (omega arith)
 found P k n (y ∷ xs) x a e = go (eqb (k.number y) n) e (found P k n xs x a.1)
   where
@@ -328,7 +328,7 @@ pourable s g d p =
       some = all_shuffled _ here _ same (all_kept_by _ _ (met (other d) theirs) (All-map _ (λ o. as_eligible (from_book (other d) o)) theirs (All-weaker _ _ (λ x v. v.0) theirs h.1)));
     }
 
-none_counted : (n : ℕ) (os : List Offer) → count an_offer os n ≡ 0 → All (λ (x : Offer). x.number.0 ≡ n → ⊥) os
+none_counted : (n : ℕ) (os : List Offer) → count an_offer os n ≡ 0 → AllByRecursion (λ (x : Offer). x.number.0 ≡ n → ⊥) os
 unfolding count
 none_counted n [] e = tt
 none_counted n (o ∷ os) e = ((λ h. (let z = cond-true {A = ℕ} (eqb o.number.0 n) 1 0 (eq-eqb _ n h) in omega arith)), none_counted n os (omega arith))
@@ -344,7 +344,7 @@ listed lot (o ∷ os) c a = (
 
 -- ── statuses ──
 
-money_bound : (lot : ℕ) (os : List Eligible) (x : Draw) → All (draws.Sound lot) os → money os x ≤ 1000000000 * size os x
+money_bound : (lot : ℕ) (os : List Eligible) (x : Draw) → AllByRecursion (draws.Sound lot) os → money os x ≤ 1000000000 * size os x
 money_bound lot [] x a = omega arith
 money_bound lot (o ∷ os) x a =
     let h = money_bound lot os x a.1 in

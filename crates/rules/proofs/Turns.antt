@@ -1,6 +1,6 @@
 -- Turns and confirmations by the ledger: a state that a ledger tells does what the law says.
 use Rattle.std.proofs.Common.{◌≡◌, ℕ, ◌%◌, ◌<◌, ◌≤◌, eqb, List, [], ◌∷◌, ◌++◌, map, Option, sym, refl, ap, ◌∙◌, subst, ap₂, append_assoc, append-nil, arith}
-use Rattle.std.specs.List.{AllByRecursion as All}
+use Rattle.std.specs.List.{AllByRecursion}
 use Rattle.std.proofs.lemmas.Bool.{cond-true, eq-eqb}
 use Rattle.units.specs.declared.Quantity.{Quantity}
 use Rattle.units.specs.declared.side.Side.{Side}
@@ -149,7 +149,7 @@ turn_others s r n ne = go r.terms
     go (Manual e m) = refl
     go (Automatic d limit m) = with_if (trade s r d (decision_in_turn s r d limit.0 m.0)) (other_fills n k ne (traded (ranked_for s r d) (decision_in_turn s r d limit.0 m.0)))
 
-turns_others : (rs : List Request) (s : State) (n : ℕ) → All (λ (r : Request). r.number.0 ≡ n → ⊥) rs → fills_by n (one_by_one turn rs s) ≡ []
+turns_others : (rs : List Request) (s : State) (n : ℕ) → AllByRecursion (λ (r : Request). r.number.0 ≡ n → ⊥) rs → fills_by n (one_by_one turn rs s) ≡ []
 unfolding one_by_one fills_by
 turns_others [] s n a = refl
 turns_others (r ∷ rs) s n a =
@@ -166,12 +166,12 @@ expired_others (r ∷ rs) l n =
 -- ── turns one after another ──
 
 -- requests of different numbers
-none_counted : (k : ℕ) (rs : List Request) → count a_request rs k ≡ 0 → All (λ (r : Request). r.number.0 ≡ k → ⊥) rs
+none_counted : (k : ℕ) (rs : List Request) → count a_request rs k ≡ 0 → AllByRecursion (λ (r : Request). r.number.0 ≡ k → ⊥) rs
 unfolding count
 none_counted k [] e = tt
 none_counted k (r ∷ rs) e = ((λ h. (let z = cond-true {A = ℕ} (eqb r.number.0 k) 1 0 (eq-eqb _ k h) in omega arith)), none_counted k rs (omega arith))
 
-different : (r : Request) (rs : List Request) → ((k : ℕ) → count a_request (r ∷ rs) k ≤ 1) → All (λ (q : Request). q.number.0 ≡ r.number.0 → ⊥) rs × ((k : ℕ) → count a_request rs k ≤ 1)
+different : (r : Request) (rs : List Request) → ((k : ℕ) → count a_request (r ∷ rs) k ≤ 1) → AllByRecursion (λ (q : Request). q.number.0 ≡ r.number.0 → ⊥) rs × ((k : ℕ) → count a_request rs k ≤ 1)
 unfolding count
 different r rs one = (
   none_counted r.number.0 rs (let o = one r.number.0 in let z = cond-true {A = ℕ} (eqb r.number.0 r.number.0) 1 0 (eq-eqb r.number.0 r.number.0 refl) in omega arith),
@@ -182,7 +182,7 @@ different r rs one = (
 pub turns_law : (P : List Request → State → Type 0) →
     ((r : Request) (rs : List Request) (s : State) → Sound s → P (r ∷ rs) s → (0 < r.left.0) × (r.left.0 % s.book.lot ≡ 0) × Fine s (turn s r) × P rs (less (turn s r) s)) →
     (all : List Report) (rs : List Request) (before : List Report) (l : Ledger) (b : State) → Sound (told l b) → P rs (told l b) → ((k : ℕ) → count a_request rs k ≤ 1) →
-    All (λ (r : Request). fills_by r.number.0 before ≡ []) rs → all ≡ before ++ one_by_one turn rs (told l b) → Turns b.book.lot all l rs (one_by_one turn rs (told l b))
+    AllByRecursion (λ (r : Request). fills_by r.number.0 before ≡ []) rs → all ≡ before ++ one_by_one turn rs (told l b) → Turns b.book.lot all l rs (one_by_one turn rs (told l b))
 unfolding one_by_one
 turns_law P each all [] before l b g p one clean is = refl
 turns_law P each all (r ∷ rs) before l b g p one clean is =
@@ -206,8 +206,8 @@ turns_law P each all (r ∷ rs) before l b g p one clean is =
           ∙ (ap (λ (v : List Fill). fills_by n mine ++ v) (turns_others rs (less mine (told l b)) n d.0) ∙ append-nil (fills_by n mine)))),
     )
   where
-    cleaner : (qs : List Request) → All (λ (q : Request). q.number.0 ≡ r.number.0 → ⊥) qs → All (λ (q : Request). fills_by q.number.0 before ≡ []) qs →
-        All (λ (q : Request). fills_by q.number.0 (before ++ turn (told l b) r) ≡ []) qs
+    cleaner : (qs : List Request) → AllByRecursion (λ (q : Request). q.number.0 ≡ r.number.0 → ⊥) qs → AllByRecursion (λ (q : Request). fills_by q.number.0 before ≡ []) qs →
+        AllByRecursion (λ (q : Request). fills_by q.number.0 (before ++ turn (told l b) r) ≡ []) qs
     cleaner [] ne c = tt
     cleaner (q ∷ qs) ne c = (
       fills_by_append q.number.0 before (turn (told l b) r) ∙ ap₂ (λ (u v : List Fill). u ++ v) c.0 (turn_others (told l b) r q.number.0 (λ z. ne.0 (sym z))),

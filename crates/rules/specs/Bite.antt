@@ -1,6 +1,6 @@
 -- That the law bites: it leaves no choice, and the histories of wrong engines are not lawful.
 use Rattle.std.specs.Prelude.{◌≡◌, ℕ, List, [], ◌∷◌, ◌++◌, map, Ok, Err}
-use Rattle.std.specs.List.{AllByRecursion as All}
+use Rattle.std.specs.List.{AllByRecursion}
 use Rattle.units.specs.declared.side.Side.TheVariants.{Buy, Sell}
 use Rattle.units.specs.declared.refusal.Refusal.TheVariants as refusals
 use Rattle.rules.specs.declared.reports.KillReason.TheVariants.{RequestDone, AnswerDone, RequestWithdrawn, RequestExpired, Withdrawn}
@@ -179,7 +179,7 @@ ends_badly b = after (history b.calls) (record { sent = sent b.last; reply = b.r
 
 -- none of these histories is lawful, whatever is held
 abbrev pub BadBreaks : Type 0
-BadBreaks = All (λ (b : Bad). (s : State) → Lawful (ends_badly b) s → ⊥) bad
+BadBreaks = AllByRecursion (λ (b : Bad). (s : State) → Lawful (ends_badly b) s → ⊥) bad
 
 -- ── right replies and reports, and something else held ──
 
@@ -208,4 +208,4 @@ held = untaken ∷ left_trace ∷ undead ∷ still ∷ []
 
 -- none of this is lawful after these calls
 abbrev pub HeldBreaks : Type 0
-HeldBreaks = All (λ (w : Held). Lawful (history w.calls) w.state → ⊥) held
+HeldBreaks = AllByRecursion (λ (w : Held). Lawful (history w.calls) w.state → ⊥) held

@@ -1,6 +1,6 @@
 -- The worked examples, as one statement over their table: of good draws and the one that trades, of statuses, and of what calls do; and that checks run in the order of their numbers.
 use Rattle.std.specs.Prelude.{◌≡◌, ℕ, ◌<◌, true, List, [], ◌∷◌, ◌++◌, map, length, Some, None, Ok, Err, Option, Result}
-use Rattle.std.specs.List.{AllByRecursion as All}
+use Rattle.std.specs.List.{AllByRecursion}
 use Rattle.units.specs.declared.Price.{Price}
 use Rattle.units.specs.declared.Firm.{Firm}
 use Rattle.units.specs.declared.Quantity.{Quantity}
@@ -215,7 +215,7 @@ table =
     ∷ []
 
 abbrev pub Marked : Type 0
-Marked = All Holds table
+Marked = AllByRecursion Holds table
 
 -- the seat can be opened, so that the law of runs is of something
 abbrev pub SeatOpens : Type 0

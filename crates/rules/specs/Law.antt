@@ -1,6 +1,6 @@
 -- The law of runs. It speaks of a history alone: of what came, what was replied and what was reported. Only its last part looks at what is held now.
 use Rattle.std.specs.Prelude.{◌≡◌, ℕ, ◌+◌, min, List, [], ◌∷◌, ◌++◌, map, length, Some, None, Ok, Err, sum_by, Option}
-use Rattle.std.specs.List.{AllByRecursion as All}
+use Rattle.std.specs.List.{AllByRecursion}
 use Rattle.units.specs.declared.side.Side.{Side}
 use Rattle.units.specs.declared.side.Side.TheVariants as sides
 use Rattle.units.specs.Sides.{other}
@@ -109,7 +109,7 @@ ClockStep lot l t rs =
 -- the offers at its price or better are emptied in trading ranking; it stops only when it is filled or none of them is left
 pub record PriceTime (d : Side) (p q : ℕ) (os : List Eligible) (fs : List Fill) : Type 0 where
   pub in_order : fs ≡ fills (trading_ranking d (crossing d p os)) q
-  pub no_worse : All (λ (f : Fill). NoWorse d f.price.0 p) fs
+  pub no_worse : AllByRecursion (λ (f : Fill). NoWorse d f.price.0 p) fs
   pub units : sum_by (λ (f : Fill). f.quantity.0) fs ≡ min q (sum_by (λ (o : Eligible). o.left.0) (crossing d p os))
 
 -- the order n reported rs: these fills, and nothing else

@@ -1,6 +1,6 @@
 -- When a market is sound: what opening makes so, every message keeps, and an engine may rely on.
 use Rattle.std.specs.Prelude.{◌≡◌, ℕ, ◌+◌, ◌≤◌, Bool, true, ◌&&◌, List, length, Some, count_by, nat_eq, nat_le}
-use Rattle.std.specs.List.{AllByRecursion as All}
+use Rattle.std.specs.List.{AllByRecursion}
 use Rattle.units.specs.declared.side.Side.{Side}
 use Rattle.units.specs.Sides.{other}
 use Rattle.units.specs.Ranges.{is_number, is_member, is_price, is_quantity}
@@ -51,8 +51,8 @@ pub record Sound (s : State) : Type 0 where
   -- at most eight requests are open and 64 answers alive, all in range
   pub few_requests : length s.requests ≤ 8
   pub few_answers : length s.answers ≤ 64
-  pub requests : All (λ (r : Request). request_in_range s.book.lot r ≡ true) s.requests
-  pub answers : All (λ (a : Answer). answer_in_range s.book.lot a ≡ true) s.answers
+  pub requests : AllByRecursion (λ (r : Request). request_in_range s.book.lot r ≡ true) s.requests
+  pub answers : AllByRecursion (λ (a : Answer). answer_in_range s.book.lot a ≡ true) s.answers
   -- no number names two of all that is there, and none is at or above the next
   pub apart : (n : ℕ) → all_times s n ≤ 1
   pub below : (n : ℕ) → s.next ≤ n → all_times s n ≡ 0

@@ -1,6 +1,6 @@
 -- That the book's own takes and removals are what fills and kills leave: the way from an engine over a book to the step.
 use Rattle.std.specs.Prelude.{◌≡◌, ℕ, ◌<◌, ◌≤◌, List, [], ◌∷◌, ◌≢◌}
-use Rattle.std.specs.List.{AllByRecursion as All}
+use Rattle.std.specs.List.{AllByRecursion}
 use Rattle.draw.specs.declared.fills.Fill.{Fill}
 use Rattle.book.specs.declared.Offer.{Offer}
 use Rattle.book.specs.Meaning.{left_of, taken, without}
@@ -12,11 +12,11 @@ use Rattle.rules.specs.Reports.{remain, filled_by, kill}
 -- no two share a number, and each has something left
 abbrev pub Listed : List Offer → Type 0
 Listed [] = Unit {0}
-Listed (o ∷ os) = All (λ (x : Offer). x.number.0 ≢ o.number.0) os × (0 < o.left.0) × Listed os
+Listed (o ∷ os) = AllByRecursion (λ (x : Offer). x.number.0 ≢ o.number.0) os × (0 < o.left.0) × Listed os
 
 -- the offers of a list have other numbers
 abbrev pub Without : List Offer → ℕ → Type 0
-Without os n = All (λ (x : Offer). x.number.0 ≢ n) os
+Without os n = AllByRecursion (λ (x : Offer). x.number.0 ≢ n) os
 
 -- a take is one fill, by a taker that is not in the list; a removal is one kill; reports leave one after another what they leave together
 pub record BookDoes : Type 0 where

@@ -1,6 +1,6 @@
 -- A sound market's trades can be settled, and the end of a request takes nothing from the book.
 use Rattle.std.proofs.Common.{◌≡◌, ℕ, ◌+◌, ◌-◌, ◌%◌, ◌<◌, ◌≤◌, min, Bool, true, false, cond, ◌&&◌, eqb, List, [], ◌∷◌, map, Some, Option, sym, refl, ◌∙◌, subst, ap₂, inl, inr, arith}
-use Rattle.std.specs.List.{AllByRecursion as All}
+use Rattle.std.specs.List.{AllByRecursion}
 use Rattle.std.proofs.ByRecursion.{All-weaker, All-append, All-map, all_kept_by, all_shuffled}
 use Rattle.std.proofs.lemmas.Bool.{cond-true, eq-eqb, eqb-true, eqb-false, cases_eq, lt-ltb, and_from, and_parts}
 use Rattle.units.specs.declared.side.Side.{Side}
@@ -45,7 +45,7 @@ unfolding count
 not_in [] n e = tt
 not_in (o ∷ os) n e = ((λ i. absurd (let z = cond-true {A = ℕ} (eqb o.number.0 n) 1 0 (eq-eqb _ n i) in omega arith)), not_in os n (omega arith))
 
-named_in : {X : Type 0} (k : Kept X) (xs : List X) → All (λ x. 0 < count k xs (k.number x)) xs
+named_in : {X : Type 0} (k : Kept X) (xs : List X) → AllByRecursion (λ x. 0 < count k xs (k.number x)) xs
 unfolding count
 named_in k [] = tt
 named_in k (x ∷ xs) = (
@@ -53,12 +53,12 @@ named_in k (x ∷ xs) = (
   All-weaker _ _ (λ y h. omega arith) xs (named_in k xs),
 )
 
-both : {X : Type 0} (P Q : X → Type 0) (xs : List X) → All P xs → All Q xs → All (λ x. P x × Q x) xs
+both : {X : Type 0} (P Q : X → Type 0) (xs : List X) → AllByRecursion P xs → AllByRecursion Q xs → AllByRecursion (λ x. P x × Q x) xs
 both P Q [] a b = tt
 both P Q (x ∷ xs) a b = ((a.0, b.0), both P Q xs a.1 b.1)
 
 -- where no number names two, what is left under an offer's number is what is left of it
-own_left : (os : List Offer) → ((n : ℕ) → count an_offer os n ≤ 1) → All (λ (o : Offer). came_as an_offer os o.number.0 ≡ o.left.0) os
+own_left : (os : List Offer) → ((n : ℕ) → count an_offer os n ≤ 1) → AllByRecursion (λ (o : Offer). came_as an_offer os o.number.0 ≡ o.left.0) os
 unfolding count came_as
 own_left [] c = tt
 own_left (o ∷ os) c = (head, All-weaker _ _ tail os (both _ _ os (own_left os (λ n. (let z = c n in omega arith))) (named_in an_offer os)))
@@ -97,9 +97,9 @@ twice Sell = refl
 abbrev Free : State → Side → Eligible → Type 0
 Free s d o = (0 < o.left.0) × (count an_offer (side_of s.book d) o.number.0 ≡ 0)
 
-on_free : (s : State) → Sound s → (r : Request) (d : Side) → All (Free s d) (on_offer s r d)
+on_free : (s : State) → Sound s → (r : Request) (d : Side) → AllByRecursion (Free s d) (on_offer s r d)
 on_free s g r d =
-    subst (All (Free s d)) (sides_drawn (taker_of r d) s.book (other d) refl s.answers)
+    subst (AllByRecursion (Free s d)) (sides_drawn (taker_of r d) s.book (other d) refl s.answers)
     (All-append (Free s d) _ _
     (All-map (Free s d) as_eligible _ (all_kept_by _ _ _ (All-map (λ o. Free s d (as_eligible o)) (from_book (other d)) os
     (All-weaker _ _ (λ o h. (h.0.0, (let z = sides s g d o.number.0 in let y = h.1 in omega arith))) os (both _ _ os (lots_of s g (other d)) (named_in an_offer os))))))
@@ -112,15 +112,15 @@ on_free s g r d =
     xs : List Answer
     xs = s.answers
 
-pour_drawn : (s : State) (d : Side) (t : ℕ) → count an_offer s.book.buys t ≡ 0 → count an_offer s.book.sells t ≡ 0 → (os : List Eligible) (q : ℕ) → All (Free s d) os → Whole s.book.lot (pour t os q) → All (Drawn s.book (other d)) (pour t os q)
+pour_drawn : (s : State) (d : Side) (t : ℕ) → count an_offer s.book.buys t ≡ 0 → count an_offer s.book.sells t ≡ 0 → (os : List Eligible) (q : ℕ) → AllByRecursion (Free s d) os → Whole s.book.lot (pour t os q) → AllByRecursion (Drawn s.book (other d)) (pour t os q)
 unfolding fills
 pour_drawn s d t b c [] q a w = tt
 pour_drawn s d t b c (o ∷ os) q a w = go (eqb q 0) refl w (pour_drawn s d t b c os (q - o.left.0) a.1)
   where
     go : (e : Bool) → eqb q 0 ≡ e →
         Whole s.book.lot (map (filled_by t) (cond e [] (record { maker = o.number; price = o.price; quantity = record { 0 = min q o.left.0 } } ∷ fills os (q - o.left.0)))) →
-        (Whole s.book.lot (pour t os (q - o.left.0)) → All (Drawn s.book (other d)) (pour t os (q - o.left.0))) →
-        All (Drawn s.book (other d)) (map (filled_by t) (cond e [] (record { maker = o.number; price = o.price; quantity = record { 0 = min q o.left.0 } } ∷ fills os (q - o.left.0))))
+        (Whole s.book.lot (pour t os (q - o.left.0)) → AllByRecursion (Drawn s.book (other d)) (pour t os (q - o.left.0))) →
+        AllByRecursion (Drawn s.book (other d)) (map (filled_by t) (cond e [] (record { maker = o.number; price = o.price; quantity = record { 0 = min q o.left.0 } } ∷ fills os (q - o.left.0))))
     go true e w h = tt
     go false e w h = (
       (
@@ -132,7 +132,7 @@ pour_drawn s d t b c (o ∷ os) q a w = go (eqb q 0) refl w (pour_drawn s d t b 
       h w.1,
     )
 
-within_side : (s : State) → Sound s → (fs : List Report) → Fine s fs → (d : Side) → All (λ (o : Offer). filled fs o.number.0 ≤ o.left.0) (side_of s.book d)
+within_side : (s : State) → Sound s → (fs : List Report) → Fine s fs → (d : Side) → AllByRecursion (λ (o : Offer). filled fs o.number.0 ≤ o.left.0) (side_of s.book d)
 within_side s g fs f Buy = All-weaker _ _ (λ o h. (
     let n = o.number.0 in
     let z = g.apart n in

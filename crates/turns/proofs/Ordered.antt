@@ -1,6 +1,6 @@
 -- A table in the order of its numbers is its own ranking, and stays in that order.
 use Rattle.std.proofs.Common.{◌≡◌, ℕ, ◌<◌, Bool, true, false, cond, ltb, List, [], ◌∷◌, filter, sym, subst, arith}
-use Rattle.std.specs.List.{AllByRecursion as All}
+use Rattle.std.specs.List.{AllByRecursion}
 use Rattle.std.proofs.ByRecursion.{All-weaker, all_kept_by}
 use Rattle.std.proofs.lemmas.List.Sorted.{IsPermutation-refl}
 use Rattle.std.proofs.lemmas.Bool.{le-ltb}
@@ -34,12 +34,12 @@ module _ {X : Type 0} (k : Kept X) where
       go true t = (all_kept_by p _ xs h.0, t)
       go false t = t
 
-  all_above : KeptLaws k → (rs : List Report) (n : ℕ) (xs : List X) → All (λ y. n < k.number y) xs → All (λ y. n < k.number y) (remain k rs xs)
+  all_above : KeptLaws k → (rs : List Report) (n : ℕ) (xs : List X) → AllByRecursion (λ y. n < k.number y) xs → AllByRecursion (λ y. n < k.number y) (remain k rs xs)
   unfolding remain
   all_above w rs n [] h = tt
   all_above w rs n (x ∷ xs) h = go (ltb 0 (rest k rs x)) (all_above w rs n xs h.1)
     where
-      go : (b : Bool) → All (λ y. n < k.number y) (remain k rs xs) → All (λ y. n < k.number y) (cond b (k.with_left x (rest k rs x) ∷ remain k rs xs) (remain k rs xs))
+      go : (b : Bool) → AllByRecursion (λ y. n < k.number y) (remain k rs xs) → AllByRecursion (λ y. n < k.number y) (cond b (k.with_left x (rest k rs x) ∷ remain k rs xs) (remain k rs xs))
       go true t = (subst (λ (m : ℕ). n < m) (sym (w.number_with x (rest k rs x))) h.0, t)
       go false t = t
 
@@ -49,5 +49,5 @@ module _ {X : Type 0} (k : Kept X) where
   remain_rising w rs (x ∷ xs) h = go (ltb 0 (rest k rs x)) (remain_rising w rs xs h.1)
     where
       go : (b : Bool) → Rising k (remain k rs xs) → Rising k (cond b (k.with_left x (rest k rs x) ∷ remain k rs xs) (remain k rs xs))
-      go true t = (subst (λ (m : ℕ). All (λ y. m < k.number y) (remain k rs xs)) (sym (w.number_with x (rest k rs x))) (all_above w rs (k.number x) xs h.0), t)
+      go true t = (subst (λ (m : ℕ). AllByRecursion (λ y. m < k.number y) (remain k rs xs)) (sym (w.number_with x (rest k rs x))) (all_above w rs (k.number x) xs h.0), t)
       go false t = t

@@ -1,6 +1,6 @@
 -- The takes of fills from a book are what the fills leave of it.
 use Rattle.std.proofs.Common.{◌≡◌, ℕ, ◌+◌, ◌<◌, ◌≤◌, Bool, true, false, cond, not, ◌&&◌, ◌||◌, eqb, ltb, leb, List, [], ◌∷◌, sym, refl, ap, ◌∙◌, subst, ap₂, arith}
-use Rattle.std.specs.List.{AllByRecursion as All}
+use Rattle.std.specs.List.{AllByRecursion}
 use Rattle.std.proofs.ByRecursion.{All-weaker}
 use Rattle.std.proofs.lemmas.Bool.{cond-true, eq-eqb, eqb-true, eqb-false, ltb-true, le-leb, and_from, and_parts, not-true}
 use Rattle.units.specs.declared.side.Side.{Side}
@@ -25,12 +25,12 @@ use Rattle.turns.specs.Settled.{settled, book_less, Drawn, Settles}
 -- ── what reports leave of a list ──
 
 -- of each offer that is left, what holds of it with less left
-all_remain : (P Q : Offer → Type 0) (rs : List Report) → ((o : Offer) → P o → 0 < rest an_offer rs o → Q (an_offer.with_left o (rest an_offer rs o))) → (os : List Offer) → All P os → All Q (remain an_offer rs os)
+all_remain : (P Q : Offer → Type 0) (rs : List Report) → ((o : Offer) → P o → 0 < rest an_offer rs o → Q (an_offer.with_left o (rest an_offer rs o))) → (os : List Offer) → AllByRecursion P os → AllByRecursion Q (remain an_offer rs os)
 unfolding remain
 all_remain P Q rs f [] a = tt
 all_remain P Q rs f (o ∷ os) a = go (ltb 0 (rest an_offer rs o)) refl (all_remain P Q rs f os a.1)
   where
-    go : (b : Bool) → ltb 0 (rest an_offer rs o) ≡ b → All Q (remain an_offer rs os) → All Q (cond b (an_offer.with_left o (rest an_offer rs o) ∷ remain an_offer rs os) (remain an_offer rs os))
+    go : (b : Bool) → ltb 0 (rest an_offer rs o) ≡ b → AllByRecursion Q (remain an_offer rs os) → AllByRecursion Q (cond b (an_offer.with_left o (rest an_offer rs o) ∷ remain an_offer rs os) (remain an_offer rs os))
     go true e h = (f o a.0 (ltb-true 0 (rest an_offer rs o) e), h)
     go false e h = h
 
@@ -51,7 +51,7 @@ all_left : (os : List Offer) → Listed os → remain an_offer [] os ≡ os
 unfolding filled killed
 all_left os a = remain_same an_offer offer_laws [] os (some os a)
   where
-    some : (os : List Offer) → Listed os → All (λ (o : Offer). (0 < o.left.0) × (filled [] o.number.0 + killed [] o.number.0 ≡ 0)) os
+    some : (os : List Offer) → Listed os → AllByRecursion (λ (o : Offer). (0 < o.left.0) × (filled [] o.number.0 + killed [] o.number.0 ≡ 0)) os
     some [] a = tt
     some (o ∷ os) a = ((a.1, refl), some os a.2)
 
@@ -66,7 +66,7 @@ has_not (o ∷ os) n e = go (eqb o.number.0 n) refl e (has_not os n)
     go false f e h = (eqb-false o.number.0 n f, h e)
 
 -- what is asked of the number n is left, where it is no more than is left of each offer of that number
-enough_left : (os : List Offer) (n a : ℕ) → All (λ (o : Offer). o.number.0 ≡ n → a ≤ o.left.0) os → has os n ≡ true → a ≤ left_of os n
+enough_left : (os : List Offer) (n a : ℕ) → AllByRecursion (λ (o : Offer). o.number.0 ≡ n → a ≤ o.left.0) os → has os n ≡ true → a ≤ left_of os n
 enough_left [] n a h e = let z : ◌≡◌ {A = ℕ} 0 1 = cc in absurd (omega arith)
 enough_left (o ∷ os) n a h e = go (eqb o.number.0 n) refl e (enough_left os n a h.1)
   where
@@ -132,7 +132,7 @@ maker_gives t f n e = let z = cond-true (eqb f.maker.0 n) f.quantity.0 0 (eq-eqb
 less_settles : (m : Meaning) (d : Side) (t : ℕ) (f : Fill) (fs : List Report) → Settles m d (filled_by t f ∷ fs) → Settles (book_less (filled_by t f ∷ []) m) d fs
 less_settles m d t f fs h = record {
   fills = All-weaker _ _ (λ r k. drawn_less m d (filled_by t f ∷ []) r k) fs h.fills.1;
-  within = subst (All (λ (o : Offer). filled fs o.number.0 ≤ o.left.0)) (sym (side_less m d (filled_by t f ∷ [])))
+  within = subst (AllByRecursion (λ (o : Offer). filled fs o.number.0 ≤ o.left.0)) (sym (side_less m d (filled_by t f ∷ [])))
       (all_remain (λ (o : Offer). filled (filled_by t f ∷ fs) o.number.0 ≤ o.left.0) _ (filled_by t f ∷ [])
       (λ o k l. (let a = first_fill t f fs o.number.0 in let b = one_only t f o.number.0 in omega arith)) (side_of m d) h.within);
 }

@@ -1,6 +1,6 @@
 -- What the takes of fills make of a book, one after another; and when that is what the fills leave of it.
 use Rattle.std.specs.Prelude.{◌≡◌, ◌≤◌, true, List, [], ◌∷◌}
-use Rattle.std.specs.List.{AllByRecursion as All}
+use Rattle.std.specs.List.{AllByRecursion}
 use Rattle.units.specs.declared.side.Side.{Side}
 use Rattle.units.specs.Sides.{other}
 use Rattle.book.specs.declared.Offer.{Offer}
@@ -31,5 +31,5 @@ Drawn m d (report.Kill reason n q) = ⊥
 
 -- such fills that take of no offer on that side more than is left of it
 pub record Settles (m : Meaning) (d : Side) (rs : List Report) : Type 0 where
-  pub fills : All (Drawn m d) rs
-  pub within : All (λ (o : Offer). filled rs o.number.0 ≤ o.left.0) (side_of m d)
+  pub fills : AllByRecursion (Drawn m d) rs
+  pub within : AllByRecursion (λ (o : Offer). filled rs o.number.0 ≤ o.left.0) (side_of m d)
