@@ -7,7 +7,7 @@ ghost use Rattle.book.specs.Making.{made_unless, filled_unless, made_as, result_
 ghost use Rattle.kept.specs.Kept.{kept_means, kept_refused, empty_book};
 ghost use Rattle.book.proofs.Sound.{sound_parts};
 ghost use Rattle.book.proofs.Telling.{takes_in_words, removals_in_words};
-ghost use Rattle.std.proofs.Common.{rules, arith};
+ghost use Rattle.std.proofs.Common.{rules};
 
 use crate::KeptBook;
 use crate::table::Table;
@@ -99,7 +99,7 @@ impl Book for KeptBook {
 
     ghost most = { 128 };
 
-    ghost few = { first_of (Prim.search rules, Prim.grind (arith, Self.row.coded.inj)) };
+    ghost few = { Prim.search rules };
 
     ghost lawful = { λ b. sound_parts 128 (kept_means b) b.ok };
 

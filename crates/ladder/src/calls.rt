@@ -7,7 +7,7 @@ ghost use Rattle.ladder.specs.Rungs.{ladder_refused, ladder_of, EndsDecide};
 ghost use Rattle.ladder.specs.Ladders.{ladder_means};
 ghost use Rattle.book.proofs.Sound.{sound_parts};
 ghost use Rattle.book.proofs.Telling.{takes_in_words};
-ghost use Rattle.std.proofs.Common.{rules, arith};
+ghost use Rattle.std.proofs.Common.{rules};
 
 use crate::Ladder;
 use crate::rail::Rail;
@@ -112,7 +112,7 @@ impl Book for Ladder {
 
     ghost most = { 64 };
 
-    ghost few = { first_of (Prim.search rules, Prim.grind (arith, Self.row.coded.inj)) };
+    ghost few = { Prim.search rules };
 
     ghost lawful = { λ b. sound_parts 64 (ladder_means b) b.ok };
 

@@ -7,7 +7,7 @@ ghost use Rattle.ladder.specs.Rungs.{ladder_refused, ladder_of, EndsDecide};
 ghost use Rattle.mixed.specs.Mixed.{mixed_means};
 ghost use Rattle.book.proofs.Sound.{sound_parts};
 ghost use Rattle.book.proofs.Telling.{takes_in_words, removals_in_words};
-ghost use Rattle.std.proofs.Common.{rules, arith};
+ghost use Rattle.std.proofs.Common.{rules};
 
 use crate::MixedBook;
 use book::{Book, MOST_A_SIDE, MakeError, Offer, OpenBook, Refused};
@@ -124,7 +124,7 @@ impl Book for MixedBook {
 
     ghost most = { 128 };
 
-    ghost few = { first_of (Prim.search rules, Prim.grind (arith, Self.row.coded.inj)) };
+    ghost few = { Prim.search rules };
 
     ghost lawful = { λ b. sound_parts 128 (mixed_means b) b.ok };
 
