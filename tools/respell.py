@@ -23,7 +23,6 @@ OTHERWISE = {
 
 DECLARED = re.compile(r"^(\s*)((?:abbrev |unfoldable |pub |mutual )*)(?:data |record )?([^\s:(){}]+)\s*(?:[({].*)?\s:(\s|$)")
 NAME = re.compile(r"(?<![^\s(){};,.:@\[\]|\"`←¬])[A-Za-z][^\s(){};,.:@\[\]|\"`]*-[^\s(){};,.:@\[\]|\"`]*")
-LIBRARY = re.compile(r"^\s*(?:pub )?(?:ghost )?use (?!Rattle\.(?:%s)\.)")
 
 
 def crates():

@@ -194,7 +194,7 @@ fn stray_in(uses: Uses, frame: &[u8]) -> Option<usize>
 
 // The message of a kind, from its header and the bytes after that.
 fn build<'a, O: Orders>(kind: Kind, firm: Firm, side: MessageSide, rest: &'a [u8]) -> Message<'a, O>
-    requires { (length rest.now ≡ 28) × ((kind ≡ kinds.Order → O.Orders.taken ≡ true)) }
+    requires { (length rest.now ≡ 28) × (kind ≡ kinds.Order → O.Orders.taken ≡ true) }
     ensures { meaning result ≡ fields_in kind (kind_code kind ∷ firm.0 ∷ side_code side ∷ 0 ∷ rest.now) }
 {
     let reference = &rest[20..28];
