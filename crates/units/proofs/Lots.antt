@@ -1,6 +1,6 @@
 -- The lot check says yes exactly to the multiples of the lot.
-use Rattle.std.proofs.Common.{◌≡◌, ℕ, ◌*◌, ◌/◌, ◌%◌, true, eqb, sym, ap, ◌∙◌, arith}
-use native.Mathlib.Nat.{mod-zero, mul-mod_left, mod-add-div'}
+use Rattle.std.proofs.Common.{◌≡◌, ℕ, ◌*◌, ◌/◌, ◌%◌, true, ap, ◌∙◌, arith}
+use native.Mathlib.Nat.{mul-mod_left, mod-add-div'}
 use Rattle.std.proofs.lemmas.Bool.{eq-eqb, eqb-true}
 use Rattle.units.specs.Ranges.{is_whole, WholeMeansMultiple}
 
@@ -14,7 +14,3 @@ passing_is_multiple lot q h =
 
 pub whole_means_multiple : WholeMeansMultiple
 whole_means_multiple lot q = (multiple_passes lot q, passing_is_multiple lot q)
-
--- of the lot 0 only 0 is a multiple
-pub no_lot : (lot q : ℕ) → lot ≡ 0 → eqb q 0 ≡ is_whole lot q
-no_lot lot q e = ap (λ x. eqb x 0) (sym (mod-zero q) ∙ ap (λ x. q % x) (sym e))

@@ -9,45 +9,42 @@ mod refusal;
 mod side;
 
 pub use orders::{NoOrders, OpenOrders, Orders};
-pub use ranges::{
-    LEAST_DELAY, LEAST_FIRM, LEAST_LOT, LEAST_NUMBER, LEAST_PRICE, LEAST_QUANTITY, MOST_DELAY,
-    MOST_LOT, MOST_MIN_FIRMS, MOST_NUMBER, MOST_PRICE, MOST_QUANTITY, MOST_TIME,
-};
+pub use ranges::Ranged;
 pub use refusal::{Layer, Refusal};
-pub use side::{MessageSide, Side};
+pub use side::Side;
 
 // Price units for one unit of quantity.
-#[derive(Clone, Copy)]
+#[derive(Clone, Copy, Debug, PartialEq, Eq, PartialOrd, Ord)]
 pub struct Price(pub u32);
 
 // How many units are offered, asked for, left or traded.
-#[derive(Clone, Copy)]
+#[derive(Clone, Copy, Debug, PartialEq, Eq, PartialOrd, Ord)]
 pub struct Quantity(pub u32);
 
 // The step of quantities: each is a multiple of the lot.
-#[derive(Clone, Copy)]
+#[derive(Clone, Copy, Debug, PartialEq, Eq, PartialOrd, Ord)]
 pub struct Lot(pub u32);
 
 // A member; 0 is the house, which sends no message.
-#[derive(Clone, Copy)]
+#[derive(Clone, Copy, Debug, PartialEq, Eq, PartialOrd, Ord)]
 pub struct Firm(pub u8);
 
 // Names one order, answer or request; 0 names nothing.
-#[derive(Clone, Copy)]
+#[derive(Clone, Copy, Debug, PartialEq, Eq, PartialOrd, Ord)]
 pub struct Number(pub u32);
 
 // Milliseconds since the start of the day.
-#[derive(Clone, Copy)]
+#[derive(Clone, Copy, Debug, PartialEq, Eq, PartialOrd, Ord)]
 pub struct Time(pub u32);
 
 // Seconds from a request's arrival to its deadline.
-#[derive(Clone, Copy)]
+#[derive(Clone, Copy, Debug, PartialEq, Eq, PartialOrd, Ord)]
 pub struct Delay(pub u32);
 
 // How many different firms.
-#[derive(Clone, Copy)]
+#[derive(Clone, Copy, Debug, PartialEq, Eq, PartialOrd, Ord)]
 pub struct FirmCount(pub u32);
 
 // Price times quantity, summed.
-#[derive(Clone, Copy)]
+#[derive(Clone, Copy, Debug, PartialEq, Eq, PartialOrd, Ord)]
 pub struct Money(pub u64);

@@ -15,7 +15,7 @@ pub trait Orders: Sized + Copy {
 }
 
 // The permission of a market over an open book.
-#[derive(Clone, Copy)]
+#[derive(Clone, Copy, Debug, PartialEq, Eq)]
 pub struct OpenOrders;
 
 impl Orders for OpenOrders {

@@ -2,19 +2,32 @@
 ghost use Rattle.std.specs.Prelude.{◌≡◌};
 ghost use Rattle.units.specs.Refusals.{number_of, layer_of, layer_number};
 
+use std::fmt;
+
 // The part that refuses.
-#[derive(Clone, Copy)]
+#[derive(Clone, Copy, Debug, PartialEq, Eq)]
 pub enum Layer {
     File,
     Gateway,
     Market,
 }
 
-impl Layer {
-    pub fn number(self) -> u8
-        ensures { result ≡ layer_number self }
-    {
-        match self {
+impl fmt::Display for Layer {
+    fn fmt<W: fmt::Write>(&self, f: &mut fmt::Formatter<W>) -> fmt::Result {
+        f.write_str(match self {
+            Layer::File => "file",
+            Layer::Gateway => "gateway",
+            Layer::Market => "market",
+        })
+    }
+}
+
+// The number of a layer.
+impl From<Layer> for u8 {
+    ghost from_gives = { λ l n. n ≡ layer_number l };
+
+    fn from(layer: Layer) -> u8 {
+        match layer {
             Layer::File => 1,
             Layer::Gateway => 2,
             Layer::Market => 3,
@@ -22,7 +35,7 @@ impl Layer {
     }
 }
 
-#[derive(Clone, Copy)]
+#[derive(Clone, Copy, Debug, PartialEq, Eq)]
 pub enum Refusal {
     // 1 to 31 bytes left at the end of a file; a reference to write that is not of eight bytes
     Length,
@@ -62,11 +75,12 @@ pub enum Refusal {
     NoNumber,
 }
 
-impl Refusal {
-    pub fn number(self) -> u8
-        ensures { result ≡ number_of self }
-    {
-        match self {
+// The number of a refusal.
+impl From<Refusal> for u8 {
+    ghost from_gives = { λ r n. n ≡ number_of r };
+
+    fn from(refusal: Refusal) -> u8 {
+        match refusal {
             Refusal::Length => 1,
             Refusal::Kind => 2,
             Refusal::Stray => 3,
@@ -87,7 +101,9 @@ impl Refusal {
             Refusal::NoNumber => 18,
         }
     }
+}
 
+impl Refusal {
     // The part that refuses so.
     pub fn layer(self) -> Layer
         ensures { result ≡ layer_of self }

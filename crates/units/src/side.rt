@@ -1,8 +1,10 @@
-// The two sides of a trade, and the side that a message names, which may be none.
+// The two sides of a trade. Where a message or a status may leave its side open, it has an `Option<Side>`.
 ghost use Rattle.std.specs.Prelude.{◌≡◌};
-ghost use Rattle.units.specs.Sides.{other, named, named_as};
+ghost use Rattle.units.specs.Sides.{other};
 
-#[derive(Clone, Copy)]
+use std::fmt;
+
+#[derive(Clone, Copy, Debug, PartialEq, Eq)]
 pub enum Side {
     Buy,
     Sell,
@@ -18,35 +20,13 @@ impl Side {
             Side::Sell => Side::Buy,
         }
     }
-
-    // This side, as a message names it.
-    pub fn named(self) -> MessageSide
-        ensures { result ≡ named_as self }
-    {
-        match self {
-            Side::Buy => MessageSide::Buy,
-            Side::Sell => MessageSide::Sell,
-        }
-    }
 }
 
-// The side of a message or of a status: a message may leave it open.
-#[derive(Clone, Copy)]
-pub enum MessageSide {
-    None,
-    Buy,
-    Sell,
-}
-
-impl MessageSide {
-    // The side that is named, if one is.
-    pub fn side(self) -> Option<Side>
-        ensures { result ≡ named self }
-    {
-        match self {
-            MessageSide::None => None,
-            MessageSide::Buy => Some(Side::Buy),
-            MessageSide::Sell => Some(Side::Sell),
-        }
+impl fmt::Display for Side {
+    fn fmt<W: fmt::Write>(&self, f: &mut fmt::Formatter<W>) -> fmt::Result {
+        f.write_str(match self {
+            Side::Buy => "buy",
+            Side::Sell => "sell",
+        })
     }
 }
