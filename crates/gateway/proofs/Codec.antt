@@ -1,29 +1,20 @@
 -- Reading and writing agree.
-use Rattle.std.proofs.Common.{◌≡◌, ℕ, ◌+◌, ◌-◌, ◌*◌, ◌/◌, ◌%◌, ◌<◌, ◌≤◌, Bool, true, false, cond, ◌||◌, eqb, ltb, List, [], ◌∷◌, ◌++◌, length, get_or, take, drop, Ok, Err, Option, Result, sym, refl, ap, ◌∙◌, subst, zero-add, arith}
+use Rattle.std.proofs.Common.{◌≡◌, ℕ, ◌+◌, ◌*◌, ◌/◌, ◌%◌, ◌<◌, ◌≤◌, Bool, true, false, cond, ◌||◌, eqb, ltb, List, ◌∷◌, length, get_or, take, drop, Ok, Err, Option, Result, sym, refl, ap, ◌∙◌, subst, zero-add, arith}
 use Rattle.std.specs.declared.option.Option.TheVariants as opt
-use Rattle.std.proofs.lemmas.List.{take_rest, get_or-take, length-take-le, take_all, drop_all, length-drop, append-nil}
+use Rattle.std.proofs.lemmas.List.{get_or-take, length-take-le, take_all, length-drop}
 use Rattle.std.proofs.lemmas.Bool.{cond-true, cond-false, eq-eqb, le-ltb, eqb-true}
 use Rattle.std.proofs.lemmas.Bool.Decides.{nat_tests}
 use Rattle.gateway.specs.declared.faults.Fault.{Fault}
 use Rattle.gateway.specs.declared.messages.Kind.{Kind}
 use Rattle.gateway.specs.declared.messages.Kind.TheVariants as kinds
-use Rattle.units.specs.declared.side.MessageSide.{MessageSide}
-use Rattle.units.specs.declared.side.MessageSide.TheVariants as sides
+use Rattle.units.specs.declared.side.Side.{Side}
+use Rattle.units.specs.declared.side.Side.TheVariants as sides
 use Rattle.gateway.specs.declared.messages.Message.{Message}
 use Rattle.gateway.specs.declared.messages.Message.TheVariants.{Order, Withdrawal, ManualRequest, AutoRequest, Answer, Confirmation, Clock}
-use Rattle.gateway.specs.Frames.{Fields, kind_code, kind_of, side_code, uses_of, used_at, first_stray, fields_in, clean, kinded, decoded, encoded, front, meaning}
-use borrow.Rule.Slice.PartMut.{put_mid, post_of}
+use Rattle.gateway.specs.Frames.{Fields, kind_code, kind_of, side_code, uses_of, used_at, first_stray, fields_in, clean, kinded, decoded, encoded, meaning}
 use Rattle.gateway.specs.Laws.{Bytes, Fit, Rereads, Rewrites}
 use Rattle.gateway.proofs.Stray.{none_stray}
 use Rattle.gateway.proofs.Words.{reread, kept_is, word_is, drop_quad}
-
--- only the last three bytes of the header, and what follows it, count
-fields_in_header : (k : Kind) (b : List ℕ) → 4 ≤ length b → fields_in k (kind_code k ∷ get_or b 1 0 ∷ get_or b 2 0 ∷ 0 ∷ drop 4 b) ≡ fields_in k b
-fields_in_header k [] h = absurd (omega arith)
-fields_in_header k (a ∷ []) h = absurd (omega arith)
-fields_in_header k (a ∷ b ∷ []) h = absurd (omega arith)
-fields_in_header k (a ∷ b ∷ c ∷ []) h = absurd (omega arith)
-fields_in_header k (a ∷ b ∷ c ∷ d ∷ r) h = refl
 
 -- a frame that passes the four checks
 decoded_ok : (orders : Bool) (place : ℕ) (b : List ℕ) (k : Kind) → length b ≡ 32 → kind_of orders (get_or b 0 0) ≡ opt.Some k
@@ -32,36 +23,28 @@ decoded_ok orders place b k len kk none small =
     cond-true _ _ _ (eq-eqb _ _ len)
     ∙ (ap (kinded place b) kk ∙ (ap (clean place b k) none ∙ cond-false _ _ _ (le-ltb _ _ small)))
 
-side_small : (s : MessageSide) → side_code s ≤ 2
-side_small sides.None = omega arith
-side_small sides.Buy = omega arith
-side_small sides.Sell = omega arith
-
-pub read_ok : (orders : Bool) (place : ℕ) (b : List ℕ) (k : Kind) (s : MessageSide) (m : Fields) → length b ≡ 32 → kind_of orders (get_or b 0 0) ≡ opt.Some k
-    → first_stray (uses_of k) (take 24 b) 0 ≡ opt.None → side_code s ≡ get_or b 2 0
-    → m ≡ fields_in k (kind_code k ∷ get_or b 1 0 ∷ side_code s ∷ 0 ∷ take (length b - 4) (drop 4 b)) → Ok m ≡ decoded orders place b
-read_ok orders place b k s m len kk none es em =
-    let small : get_or b 2 0 ≤ 2 = omega (arith, es, side_small s) in
-    let e : m ≡ fields_in k b = (simp (es, take_rest) at em) ∙ fields_in_header k b (omega arith) in
-    ap Ok e ∙ sym (decoded_ok orders place b k len kk none small)
+side_small : (s : Option Side) → side_code s ≤ 2
+side_small opt.None = omega arith
+side_small (opt.Some sides.Buy) = omega arith
+side_small (opt.Some sides.Sell) = omega arith
 
 -- what a frame that reads has passed
 ok_of : {A : Type 0} (t : Bool) (x : Result A Fault) (e : Fault) (m : A) → cond t x (Err e) ≡ Ok m → (t ≡ true) × (x ≡ Ok m)
 ok_of true x e m h = (refl, h)
-ok_of false x e m h = let z : ◌≡◌ {A = ℕ} 0 1 = cc in absurd (omega arith)
+ok_of false x e m h = absurd cc
 
 side_ok : (t : Bool) (x m : Fields) (e : Fault) → cond t (Err e) (Ok x) ≡ Ok m → x ≡ m
-side_ok true x m e h = let z : ◌≡◌ {A = ℕ} 0 1 = cc in absurd (omega arith)
+side_ok true x m e h = absurd cc
 side_ok false x m e h = cc
 
 kind_ok : (place : ℕ) (b : List ℕ) (o : Option Kind) (m : Fields) → kinded place b o ≡ Ok m
     → (k : Kind) × (o ≡ opt.Some k) × (clean place b k (first_stray (uses_of k) (take 24 b) 0) ≡ Ok m)
-kind_ok place b opt.None m h = let z : ◌≡◌ {A = ℕ} 0 1 = cc in absurd (omega arith)
+kind_ok place b opt.None m h = absurd cc
 kind_ok place b (opt.Some k) m h = (k, refl, h)
 
 clean_ok : (place : ℕ) (b : List ℕ) (k : Kind) (o : Option ℕ) (m : Fields) → clean place b k o ≡ Ok m
     → (o ≡ opt.None) × (fields_in k b ≡ m)
-clean_ok place b k (opt.Some at) m h = let z : ◌≡◌ {A = ℕ} 0 1 = cc in absurd (omega arith)
+clean_ok place b k (opt.Some at) m h = absurd cc
 clean_ok place b k opt.None m h = (refl, side_ok (ltb 2 (get_or b 2 0)) (fields_in k b) m _ h)
 
 -- the code of the kind that a byte stands for is that byte
@@ -140,14 +123,7 @@ rereads O orders permitted place (Answer f s n p q r) fit = reread_kind orders p
 rereads O orders permitted place (Confirmation f s n p r) fit = reread_kind orders place _ kinds.Confirmation fit refl (side_small s) refl refl
 rereads O orders permitted place (Clock t r) fit = reread_kind orders place _ kinds.Clock fit refl (omega arith) refl refl
 
--- the front, and then the reference, written over a frame
-pub writes_over : (w : Fields) (a b out : List ℕ) → a ≡ front w → b ≡ w.reference → length w.reference ≡ 8 → length out ≡ 32
-    → put_mid 24 8 (a ++ post_of 0 24 out) b ≡ encoded w
-writes_over w a b out ea eb len full =
-    let t : drop 8 (drop 24 out) ≡ [] = drop_all 8 (drop 24 out) (rw length-drop (omega arith)) in
-    ap (λ x. put_mid 24 8 (x ++ post_of 0 24 out) b) ea
-    ∙ (ap (λ x. front w ++ (b ++ x)) t ∙ ap (λ x. front w ++ x) (append-nil b ∙ eb))
-
+-- a frame written of the fields of a message says it again
 pub reread_written : (O : Type 0) (orders : Bool) → (O → orders ≡ true) → (place : ℕ) (m : Message O) (w : Fields) (x : List ℕ)
     → x ≡ encoded w → w ≡ meaning m → Fit w → decoded orders place x ≡ Ok (meaning m)
 reread_written O orders permitted place m w x e em fit =

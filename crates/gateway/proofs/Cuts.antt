@@ -1,9 +1,10 @@
 -- Cutting a file into frames.
-use Rattle.std.proofs.Common.{◌≡◌, ℕ, zero, suc, ◌+◌, ◌-◌, ◌*◌, ◌/◌, ◌%◌, ◌<◌, ◌≤◌, cond, eqb, ltb, List, [], ◌++◌, length, take, drop, Some, None, Ok, Err, sym, refl, ap, ◌∙◌, add_assoc, zero-add, mul-suc, mul-add, arith, length-append}
+use Rattle.std.proofs.Common.{◌≡◌, ℕ, zero, suc, ◌+◌, ◌-◌, ◌*◌, ◌/◌, ◌%◌, ◌<◌, ◌≤◌, cond, eqb, ltb, List, [], ◌++◌, length, take, drop, Some, Err, sym, refl, ap, ◌∙◌, add_assoc, zero-add, mul-suc, mul-add, arith, length-append}
 use native.Mathlib.Nat.{mul-add-mod_self_left}
-use Rattle.std.proofs.lemmas.List.{length-take, length-drop, take_all, take-take, drop-take, take-append-drop, drop_all, drop-drop, drop-append-le}
+use Rattle.std.proofs.lemmas.List.{length-take, length-drop, take_all, drop-take, drop_all, drop-drop, drop-append-le}
 use Rattle.std.proofs.lemmas.Bool.{cond-true, cond-false, lt-ltb, le-ltb}
-use Rattle.std.proofs.lemmas.List.Edits.{take-paste, drop-paste}
+use Rattle.std.proofs.lemmas.List.Edits.{take-paste}
+use Rattle.std.proofs.Math.Seq.{take-add}
 use lib.Seq.{paste}
 use Rattle.std.proofs.lemmas.Bool.Decides.{nat_tests}
 use Rattle.units.specs.declared.refusal.Refusal.TheVariants as refusals
@@ -11,12 +12,9 @@ use Rattle.gateway.specs.Faults.{fault}
 use Rattle.gateway.specs.Cuts.{whole_in, short_in, count_of, cut_at, piece_at, pieces}
 use Rattle.gateway.specs.Laws.{Covers, Resumes}
 
-take_add : (m n : ℕ) (l : List ℕ) → take m l ++ take n (drop m l) ≡ take (m + n) l
-take_add m n l = let h : m ≤ m + n = omega arith in rw (take-take, drop-take) at (take-append-drop m (take (m + n) l))
-
 pieces_take : (n : ℕ) (b : List ℕ) → pieces n b ≡ take (32 * n) b
 pieces_take zero b = refl
-pieces_take (suc n) b = ap (λ l. l ++ cut_at b n) (pieces_take n b) ∙ (take_add (32 * n) 32 b ∙ rw mul-suc refl)
+pieces_take (suc n) b = ap (λ l. l ++ cut_at b n) (pieces_take n b) ∙ (sym (take-add (32 * n) 32 b) ∙ rw mul-suc refl)
 
 joined : (b : List ℕ) → pieces (count_of b) b ≡ b
 joined b = pieces_take (count_of b) b ∙ take_all (32 * count_of b) b (grind (arith, nat_tests))
@@ -62,33 +60,20 @@ resumes a b n i place h =
     let two : ltb (n + i) (count_of (a ++ b)) ≡ ltb i (count_of b) = ap (ltb (n + i)) k ∙ sooner n i (count_of b) in
     cc (drop_after a b n i h)
 
--- the three cases of a piece
-pub a_frame : (b : List ℕ) (index place : ℕ) → index < whole_in b → Some (Ok (cut_at b index)) ≡ piece_at b index place
-a_frame b index place h = sym (cond-true _ _ _ (lt-ltb _ _ h))
-
+-- the piece after the last whole frame
 pub a_short_rest : (b : List ℕ) (index place : ℕ) → (index < whole_in b → ⊥) → index < count_of b
     → Some (Err (fault refusals.Length place 0)) ≡ piece_at b index place
 a_short_rest b index place past h =
     let p : whole_in b ≤ index = omega arith in
     sym (cond-false _ _ _ (le-ltb _ _ p) ∙ cond-true _ _ _ (lt-ltb _ _ h))
 
-pub past_the_end : (b : List ℕ) (index place : ℕ) → (index < whole_in b → ⊥) → (index < count_of b → ⊥) → None ≡ piece_at b index place
-past_the_end b index place past over =
-    let p : whole_in b ≤ index = omega arith in
-    let q : count_of b ≤ index = omega arith in
-    sym (cond-false _ _ _ (le-ltb _ _ p) ∙ cond-false _ _ _ (le-ltb _ _ q))
-
 -- a part of a list, pasted over its front
 pub front_pasted : (xs x : List ℕ) (start end : ℕ) → start ≤ end → end ≤ length xs → x ≡ paste xs 0 (drop start xs) (end - start)
-    → (take (end - start) x ≡ drop start (take end xs)) × (drop (end - start) x ≡ drop (end - start) xs)
+    → take (end - start) x ≡ drop start (take end xs)
 front_pasted xs x start end h within e =
     let n : ℕ = end - start in
     let split_end : end ≡ start + n = omega arith in
-    let fits : n ≤ length (drop start xs) = rw length-drop (omega arith) in (
-      ap (take n) e
-          ∙ (ap (λ k. take k (paste xs 0 (drop start xs) n)) (sym (zero-add n))
-          ∙ (take-paste xs 0 (drop start xs) n (omega arith) fits ∙ sym (ap (λ k. drop start (take k xs)) (split_end) ∙ drop-take start n xs))),
-      ap (drop n) e
-          ∙ (ap (λ k. drop k (paste xs 0 (drop start xs) n)) (sym (zero-add n))
-          ∙ (drop-paste xs 0 (drop start xs) n (omega arith) fits ∙ ap (λ k. drop k xs) (zero-add n))),
-    )
+    let fits : n ≤ length (drop start xs) = rw length-drop (omega arith) in
+    ap (take n) e
+    ∙ (ap (λ k. take k (paste xs 0 (drop start xs) n)) (sym (zero-add n))
+    ∙ (take-paste xs 0 (drop start xs) n (omega arith) fits ∙ sym (ap (λ k. drop start (take k xs)) split_end ∙ drop-take start n xs)))

@@ -1,8 +1,11 @@
 -- The search for a stray byte, a step at a time.
-use Rattle.std.proofs.Common.{◌≡◌, ℕ, zero, suc, ◌+◌, ◌<◌, ◌≤◌, Bool, true, false, cond, ◌&&◌, ◌||◌, eqb, ltb, ◌⊎◌, List, [], ◌∷◌, length, get_or, take, drop, Option, sym, refl, ◌∙◌, subst, inl, inr, ⊎_elim, suc-le-suc, le_of_suc-le-suc, not-suc-le-zero, add-zero, zero-add, arith, below_more}
+use Rattle.std.proofs.Common.{◌≡◌, ℕ, zero, suc, ◌+◌, ◌<◌, ◌≤◌, Bool, true, false, cond, not, ◌&&◌, ◌||◌, eqb, List, [], ◌∷◌, length, get_or, take, drop, Option, sym, refl, ◌∙◌, subst, ⊎_elim, suc-le-suc, le_of_suc-le-suc, not-suc-le-zero, add-zero, zero-add, arith, below_more}
 use Rattle.std.specs.declared.option.Option.TheVariants as opt
+use Rattle.std.specs.Prelude.{position}
+use Rattle.std.specs.List.{position_from, enumerate_from}
+use Rattle.std.proofs.lemmas.Iterator.Adapters.{position_from-zero}
 use Rattle.std.proofs.lemmas.List.{at_drop_more, at_drop_all, get_or-take, length-take-le}
-use Rattle.std.proofs.lemmas.Bool.{cond-true, cond-false, cases_Bool, and_parts, ltb-true, ltb-false}
+use Rattle.std.proofs.lemmas.Bool.{cond-true, cond-false, cases_Bool, and_parts}
 use Rattle.std.proofs.lemmas.Bool.Decides.{nat_tests}
 use Rattle.gateway.specs.declared.messages.Uses.{Uses}
 use Rattle.gateway.specs.Frames.{allowed_at, first_stray, field_at, clean_fields}
@@ -16,9 +19,22 @@ pub stray_here : (u : Uses) (xs : List ℕ) (p : ℕ) → p < length xs → allo
     → first_stray u (drop p xs) p ≡ opt.Some p
 stray_here u xs p h e = at_drop_more (λ l. first_stray u l p) xs p 0 h ∙ cond-false _ _ _ e
 
+-- the first numbered byte that may not stand at its number
+flipped : (t : Bool) (a b c : Option ℕ) → a ≡ b → cond (not t) c a ≡ cond t b c
+flipped true a b c e = e
+flipped false a b c e = refl
+
+by_number : (u : Uses) (xs : List ℕ) (p : ℕ)
+    → position_from {K = ℕ × ℕ} (λ x. not (allowed_at u x.0 x.1)) p (enumerate_from p xs) ≡ first_stray u xs p
+by_number u [] p = refl
+by_number u (x ∷ xs) p = flipped (allowed_at u p x) _ _ _ (by_number u xs (p + 1))
+
+pub by_position : (u : Uses) (xs : List ℕ) → position {X = ℕ × ℕ} (λ x. not (allowed_at u x.0 x.1)) (enumerate_from 0 xs) ≡ first_stray u xs 0
+by_position u xs = position_from-zero {B = ℕ × ℕ} (λ x. not (allowed_at u x.0 x.1)) (enumerate_from 0 xs) ∙ by_number u xs 0
+
 kept_on : (t : Bool) (o : Option ℕ) (p : ℕ) → cond t o (opt.Some p) ≡ opt.None → (t ≡ true) × (o ≡ opt.None)
 kept_on true o p e = (refl, e)
-kept_on false o p e = let z : ◌≡◌ {A = ℕ} 0 1 = cc in absurd (omega arith)
+kept_on false o p e = absurd cc
 
 suc_add_one : (p i : ℕ) → (p + 1) + i ≡ p + suc i
 suc_add_one p i = omega arith
@@ -37,8 +53,7 @@ first_from : (u : Uses) (b : List ℕ) (n i p : ℕ) → i + n ≡ length b → 
     → ((j : ℕ) → j < i → allowed_at u j (get_or b j 0) ≡ true) → First u b p
 first_from u b zero i p full e before =
     let z = at_drop_all (λ l. first_stray u l i) b i (omega arith) in
-    let y : ◌≡◌ {A = ℕ} 0 1 = cc in
-    absurd (omega arith)
+    absurd cc
 first_from u b (suc n) i p full e before =
     let lt : i < length b = omega arith in
     ⊎_elim
@@ -62,9 +77,6 @@ word_allowed : (u : Bool) (b : List ℕ) (at j : ℕ) → (u || eqb (field_at b 
 word_allowed true b at j e low high = refl
 word_allowed false b at j e low high = grind (arith, nat_tests)
 
-split : (j n : ℕ) → (j < n) ⊎ (n ≤ j)
-split j n = ⊎_elim (λ t. inl (ltb-true j n t)) (λ f. inr (ltb-false j n f)) (cases_Bool (ltb j n))
-
 -- the eight fields of a clean frame, one by one
 pub record Clean (u : Uses) (b : List ℕ) : Type 0 where
   pub firm : (u.firm || eqb (get_or b 1 0) 0) ≡ true
@@ -76,42 +88,31 @@ pub record Clean (u : Uses) (b : List ℕ) : Type 0 where
   pub minimum : (u.minimum || eqb (field_at b 16) 0) ≡ true
   pub time : (u.time || eqb (field_at b 20) 0) ≡ true
 
-three : (x y z : Bool) → (x && y && z) ≡ true → (x ≡ true) × (y ≡ true) × (z ≡ true)
-three true true true e = (refl, refl, refl)
-three true true false e = (refl, refl, e)
-three true false z e = (refl, e, let no_more : ◌≡◌ {A = ℕ} 0 1 = cc in absurd (omega arith))
-three false y z e = let no_more : ◌≡◌ {A = ℕ} 0 1 = cc in absurd (omega arith)
-
 clean_parts : (u : Uses) (b : List ℕ) → clean_fields u b ≡ true → Clean u b
 clean_parts u b e =
-    let header : Bool = (u.firm || eqb (get_or b 1 0) 0) && (u.side || eqb (get_or b 2 0) 0) && eqb (get_or b 3 0) 0 in
-    let front : Bool = (u.number || eqb (field_at b 4) 0) && (u.price || eqb (field_at b 8) 0) && (u.quantity || eqb (field_at b 12) 0) in
-    let last = and_parts ((header && front) && (u.minimum || eqb (field_at b 16) 0)) (u.time || eqb (field_at b 20) 0) e in
-    let more = and_parts (header && front) (u.minimum || eqb (field_at b 16) 0) last.0 in
-    let both = and_parts header front more.0 in
-    let h = three (u.firm || eqb (get_or b 1 0) 0) (u.side || eqb (get_or b 2 0) 0) (eqb (get_or b 3 0) 0) both.0 in
-    let f = three (u.number || eqb (field_at b 4) 0) (u.price || eqb (field_at b 8) 0) (u.quantity || eqb (field_at b 12) 0) both.1 in
-    record { firm = h.0; side = h.1; zero = h.2; number = f.0; price = f.1; quantity = f.2; minimum = more.1; time = last.1 }
+    let firm : Bool = u.firm || eqb (get_or b 1 0) 0 in
+    let side : Bool = u.side || eqb (get_or b 2 0) 0 in
+    let both : (firm && side) ≡ true = grind (arith, nat_tests) in
+    record {
+      firm = (and_parts firm side both).0;
+      side = (and_parts firm side both).1;
+      zero = grind (arith, nat_tests);
+      number = grind (arith, nat_tests);
+      price = grind (arith, nat_tests);
+      quantity = grind (arith, nat_tests);
+      minimum = grind (arith, nat_tests);
+      time = grind (arith, nat_tests);
+    }
 
 -- one place after another, each by the field that it is in
 allowed_in_clean : (u : Uses) (b : List ℕ) → Clean u b → (j : ℕ) → j < 24 → allowed_at u j (get_or b j 0) ≡ true
 allowed_in_clean u b c j h =
-    ⊎_elim
-    (λ header. grind (arith, nat_tests, c.firm, c.side, c.zero))
-    (λ past4. ⊎_elim
-    (λ below8. let w = word_allowed u.number b 4 j c.number past4 below8 in grind (arith, nat_tests))
-    (λ past8. ⊎_elim
-    (λ below12. let w = word_allowed u.price b 8 j c.price past8 below12 in grind (arith, nat_tests))
-    (λ past12. ⊎_elim
-    (λ below16. let w = word_allowed u.quantity b 12 j c.quantity past12 below16 in grind (arith, nat_tests))
-    (λ past16. ⊎_elim
-    (λ below20. let w = word_allowed u.minimum b 16 j c.minimum past16 below20 in grind (arith, nat_tests))
-    (λ past20. let w = word_allowed u.time b 20 j c.time past20 h in grind (arith, nat_tests))
-    (split j 20))
-    (split j 16))
-    (split j 12))
-    (split j 8))
-    (split j 4)
+    let number = word_allowed u.number b 4 j c.number in
+    let price = word_allowed u.price b 8 j c.price in
+    let quantity = word_allowed u.quantity b 12 j c.quantity in
+    let minimum = word_allowed u.minimum b 16 j c.minimum in
+    let time = word_allowed u.time b 20 j c.time in
+    grind (arith, nat_tests, c.firm, c.side, c.zero)
 
 pub clean_none : (u : Uses) (b : List ℕ) → 24 ≤ length b → clean_fields u b ≡ true → first_stray u (take 24 b) 0 ≡ opt.None
 clean_none u b long e =

@@ -1,42 +1,26 @@
 -- Four bytes and the number that they write.
-use Rattle.std.proofs.Common.{◌≡◌, ℕ, ◌+◌, ◌*◌, ◌/◌, ◌%◌, ◌^◌, ◌<◌, ◌≤◌, Bool, true, false, ◌||◌, eqb, List, [], ◌∷◌, ◌++◌, length, get_or, drop, sym, refl, ap, ◌∙◌, subst, add-zero, add_assoc, mod-eq_of_lt, div-add-mod', arith}
-use native.Mathlib.Nat.{div-div-eq-div-mul}
+use Rattle.std.proofs.Common.{◌≡◌, ℕ, zero, suc, ◌+◌, ◌*◌, ◌/◌, ◌%◌, ◌^◌, ◌<◌, ◌≤◌, Bool, true, false, ◌||◌, eqb, List, [], ◌∷◌, ◌++◌, length, get_or, drop, sym, refl, ap, ◌∙◌, add-zero, add_assoc, arith}
 use Rattle.std.proofs.lemmas.List.{drop_more}
-use Rattle.std.proofs.lemmas.Nat.{div_below, mod-mul-add}
+use Rattle.std.proofs.lemmas.Nat.{le_bytes_4, from_le_bytes-to_le_bytes_4}
 use Rattle.std.proofs.lemmas.Bool.Decides.{nat_tests}
 use Rattle.gateway.specs.Frames.{field_at, le, kept}
 use Rattle.gateway.specs.Laws.{Bytes}
 
-sums : (a b c d q r t n : ℕ) → q * 256 + a ≡ n → r * 256 + b ≡ q → t * 256 + c ≡ r → d ≡ t
-    → a + b * 256 + c * 65536 + d * 16777216 ≡ n
-sums a b c d q r t n e f g h = omega arith
-
 -- a number of 32 bits, written and read again
 pub reread : (n : ℕ) → n < 2 ^ 32 → n % 256 + n / 256 % 256 * 256 + n / 65536 % 256 * 65536 + n / 16777216 % 256 * 16777216 ≡ n
-reread n h =
-    let d1 : n / 256 / 256 ≡ n / 65536 = div-div-eq-div-mul n 256 256 in
-    let d2 : n / 65536 / 256 ≡ n / 16777216 = div-div-eq-div-mul n 65536 256 in
-    let r0 : n / 256 * 256 + n % 256 ≡ n = div-add-mod' n 256 in
-    let r1 : n / 65536 * 256 + n / 256 % 256 ≡ n / 256 = subst (λ x. x * 256 + n / 256 % 256 ≡ n / 256) d1 (div-add-mod' (n / 256) 256) in
-    let r2 : n / 16777216 * 256 + n / 65536 % 256 ≡ n / 65536 = subst (λ x. x * 256 + n / 65536 % 256 ≡ n / 65536) d2 (div-add-mod' (n / 65536) 256) in
-    let top : n / 16777216 < 256 = div_below n 16777216 256 (omega arith) (omega arith) in
-    sums (n % 256) (n / 256 % 256) (n / 65536 % 256) (n / 16777216 % 256) (n / 256) (n / 65536) (n / 16777216) n r0 r1 r2 (mod-eq_of_lt top)
+reread n h = from_le_bytes-to_le_bytes_4 n h
 
 -- four bytes, read and written again
 pub rewrite : (n a b c d : ℕ) → n ≡ a + b * 256 + c * 65536 + d * 16777216 → a < 256 → b < 256 → c < 256 → d < 256
     → le n ≡ a ∷ b ∷ c ∷ d ∷ []
-rewrite n a b c d e ha hb hc hd =
-    let q1 : n / 256 ≡ b + c * 256 + d * 65536 = omega arith in
-    let q2 : n / 65536 ≡ c + d * 256 = omega arith in
-    let q3 : n / 16777216 ≡ d = omega arith in
-    let m0 : n ≡ (b + c * 256 + d * 65536) * 256 + a = omega arith in
-    let m1 : n / 256 ≡ (c + d * 256) * 256 + b = omega arith in
-    let m2 : n / 65536 ≡ d * 256 + c = omega arith in
-    let e0 : n % 256 ≡ a = ap (λ x. x % 256) (m0) ∙ mod-mul-add (b + c * 256 + d * 65536) 256 a ha in
-    let e1 : n / 256 % 256 ≡ b = ap (λ x. x % 256) (m1) ∙ mod-mul-add (c + d * 256) 256 b hb in
-    let e2 : n / 65536 % 256 ≡ c = ap (λ x. x % 256) (m2) ∙ mod-mul-add d 256 c hc in
-    let e3 : n / 16777216 % 256 ≡ d = ap (λ x. x % 256) q3 ∙ mod-eq_of_lt hd in
-    cc
+rewrite n a b c d e ha hb hc hd = le_bytes_4 (a ∷ b ∷ c ∷ d ∷ []) n refl small e
+  where
+    small : (i : ℕ) → get_or (a ∷ b ∷ c ∷ d ∷ []) i 0 < 256
+    small zero = ha
+    small (suc zero) = hb
+    small (suc (suc zero)) = hc
+    small (suc (suc (suc zero))) = hd
+    small (suc (suc (suc (suc i)))) = omega arith
 
 -- a byte that may stand where it is: it is used, or 0
 pub kept_is : (u : Bool) (x : ℕ) → (u || eqb x 0) ≡ true → kept u x ≡ x

@@ -2,8 +2,8 @@
 use Rattle.std.specs.Prelude.{ℕ, ◌+◌, ◌*◌, ◌/◌, ◌%◌, Bool, true, false, cond, ◌&&◌, ◌||◌, List, [], ◌∷◌, ◌++◌, length, take, drop, Ok, Err, Option, Result, ◌==◌, nat_lt, slice_index}
 use Rattle.std.specs.declared.option.Option.TheVariants as opt
 use Rattle.units.specs.declared.refusal.Refusal.TheVariants as refusals
-use Rattle.units.specs.declared.side.MessageSide.{MessageSide}
-use Rattle.units.specs.declared.side.MessageSide.TheVariants as sides
+use Rattle.units.specs.declared.side.Side.{Side}
+use Rattle.units.specs.declared.side.Side.TheVariants as sides
 use Rattle.gateway.specs.declared.faults.Fault.{Fault}
 use Rattle.gateway.specs.declared.messages.Uses.{Uses}
 use Rattle.gateway.specs.declared.messages.Kind.{Kind}
@@ -27,10 +27,10 @@ pub record Fields : Type 0 where
   pub time : ℕ
   pub reference : List ℕ
 
-abbrev pub side_code : MessageSide → ℕ
-side_code sides.None = 0
-side_code sides.Buy = 1
-side_code sides.Sell = 2
+abbrev pub side_code : Option Side → ℕ
+side_code opt.None = 0
+side_code (opt.Some sides.Buy) = 1
+side_code (opt.Some sides.Sell) = 2
 
 abbrev pub kind_code : Kind → ℕ
 kind_code kinds.Order = 1
@@ -43,20 +43,20 @@ kind_code kinds.Clock = 7
 
 -- the number and the values of a message
 abbrev pub meaning : {O : Type 0} → Message O → Fields
-meaning (Order o f s p q r) = record { kind = 1; firm = f.0; side = side_code s; number = 0; price = p.0; quantity = q.0; minimum = 0; time = 0; reference = r.now }
-meaning (Withdrawal f n r) = record { kind = 2; firm = f.0; side = 0; number = n.0; price = 0; quantity = 0; minimum = 0; time = 0; reference = r.now }
-meaning (ManualRequest f s q m t r) = record { kind = 3; firm = f.0; side = side_code s; number = 0; price = 0; quantity = q.0; minimum = m.0; time = t.0; reference = r.now }
-meaning (AutoRequest f s p q m t r) = record { kind = 4; firm = f.0; side = side_code s; number = 0; price = p.0; quantity = q.0; minimum = m.0; time = t.0; reference = r.now }
-meaning (Answer f s n p q r) = record { kind = 5; firm = f.0; side = side_code s; number = n.0; price = p.0; quantity = q.0; minimum = 0; time = 0; reference = r.now }
-meaning (Confirmation f s n p r) = record { kind = 6; firm = f.0; side = side_code s; number = n.0; price = p.0; quantity = 0; minimum = 0; time = 0; reference = r.now }
-meaning (Clock t r) = record { kind = 7; firm = 0; side = 0; number = 0; price = 0; quantity = 0; minimum = 0; time = t.0; reference = r.now }
+meaning (Order o f s p q r) = record { kind = kind_code kinds.Order; firm = f.0; side = side_code s; number = 0; price = p.0; quantity = q.0; minimum = 0; time = 0; reference = r.now }
+meaning (Withdrawal f n r) = record { kind = kind_code kinds.Withdrawal; firm = f.0; side = 0; number = n.0; price = 0; quantity = 0; minimum = 0; time = 0; reference = r.now }
+meaning (ManualRequest f s q m t r) = record { kind = kind_code kinds.ManualRequest; firm = f.0; side = side_code s; number = 0; price = 0; quantity = q.0; minimum = m.0; time = t.0; reference = r.now }
+meaning (AutoRequest f s p q m t r) = record { kind = kind_code kinds.AutoRequest; firm = f.0; side = side_code s; number = 0; price = p.0; quantity = q.0; minimum = m.0; time = t.0; reference = r.now }
+meaning (Answer f s n p q r) = record { kind = kind_code kinds.Answer; firm = f.0; side = side_code s; number = n.0; price = p.0; quantity = q.0; minimum = 0; time = 0; reference = r.now }
+meaning (Confirmation f s n p r) = record { kind = kind_code kinds.Confirmation; firm = f.0; side = side_code s; number = n.0; price = p.0; quantity = 0; minimum = 0; time = 0; reference = r.now }
+meaning (Clock t r) = record { kind = kind_code kinds.Clock; firm = 0; side = 0; number = 0; price = 0; quantity = 0; minimum = 0; time = t.0; reference = r.now }
 
 abbrev pub plain : Layout → Fields
 plain w =
     record {
-      kind = w.kind;
-      firm = w.firm;
-      side = w.side;
+      kind = kind_code w.kind;
+      firm = w.firm.0;
+      side = side_code w.side;
       number = w.number;
       price = w.price;
       quantity = w.quantity;

@@ -1,10 +1,10 @@
-// Why a frame, or a short rest of a file, is refused, and where.
+// Why a frame, or a short rest of a file, is refused, and where. Place and byte are 0 where there is none, as the format of answers has it.
 ghost use Rattle.std.specs.Prelude.{◌≡◌};
 ghost use Rattle.gateway.specs.Faults.{fault};
 
 use units::{Layer, Refusal};
 
-#[derive(Clone, Copy)]
+#[derive(Clone, Copy, Debug, PartialEq, Eq)]
 pub struct Fault {
     // the part that refuses
     pub layer: Layer,

@@ -2,6 +2,7 @@
 // borrows its reference, or says by a fault why it is refused, and writes the frame of a message.
 #![tactic(auto)]
 
+mod codes;
 mod cutting;
 mod faults;
 mod messages;

@@ -1,12 +1,14 @@
 // Reading a frame.
-ghost use Rattle.std.specs.Prelude.{◌≡◌, ◌+◌, ◌<◌, ◌≤◌, true, ◌||◌, ◌∷◌, length, take, IfOk, Err, MatchOption, ◌==◌, slice_index};
+ghost use Rattle.std.specs.List.{enumerate_from};
+ghost use Rattle.std.specs.Prelude.{position, not, ℕ, ◌≡◌, ◌+◌, ◌<◌, ◌≤◌, true, ◌||◌, ◌∷◌, length, take, IfOk, Err, MatchOption, ◌==◌, slice_index};
 ghost use Rattle.gateway.specs.declared.messages.Kind.TheVariants as kinds;
 ghost use Rattle.gateway.specs.Frames.{side_code, kind_code, kind_of, uses_of, used_at, allowed_at, first_stray, clean_fields, field_at, meaning, fields_in, answer, decoded, encoded};
 ghost use Rattle.gateway.specs.Laws.{Firsts};
 
+use super::codes::{kind_of, side_of};
 use super::faults::Fault;
-use super::messages::{FRAME, Kind, Message, Uses};
-use units::{Delay, Firm, FirmCount, MessageSide, Number, Orders, Price, Quantity, Refusal, Time};
+use super::messages::{FRAME, FRONT, Kind, MINIMUM, Message, NUMBER, PRICE, QUANTITY, TIME, Uses};
+use units::{Delay, Firm, FirmCount, Number, Orders, Price, Quantity, Refusal, Side, Time};
 
 // The four-byte little-endian field at a place.
 fn field(bytes: &[u8], at: usize) -> u32
@@ -22,32 +24,15 @@ fn takes_orders<O: Orders>() -> bool
     O::permission().is_some()
 }
 
-// The kind of a code; orders are there only where the book is open.
-fn kind_of(code: u8, orders: bool) -> Option<Kind>
-    ensures { result ≡ kind_of orders code }
-{
-    match code {
-        1 if orders => Some(Kind::Order),
-        2 => Some(Kind::Withdrawal),
-        3 => Some(Kind::ManualRequest),
-        4 => Some(Kind::AutoRequest),
-        5 => Some(Kind::Answer),
-        6 => Some(Kind::Confirmation),
-        7 => Some(Kind::Clock),
-        _ => None,
-    }
-}
-
-fn side_of(code: u8) -> Option<MessageSide>
-    ensures { MatchOption result (2 < code) (λ s. side_code s ≡ code) }
-{
-    match code {
-        0 => Some(MessageSide::None),
-        1 => Some(MessageSide::Buy),
-        2 => Some(MessageSide::Sell),
-        _ => None,
-    }
-}
+const NO_FIELD: Uses = Uses {
+    firm: false,
+    side: false,
+    number: false,
+    price: false,
+    quantity: false,
+    minimum: false,
+    time: false,
+};
 
 // The table of fields.
 fn uses_of(kind: Kind) -> Uses
@@ -57,38 +42,31 @@ fn uses_of(kind: Kind) -> Uses
         Kind::Order => Uses {
             firm: true,
             side: true,
-            number: false,
             price: true,
             quantity: true,
-            minimum: false,
-            time: false,
+            ..NO_FIELD
         },
         Kind::Withdrawal => Uses {
             firm: true,
-            side: false,
             number: true,
-            price: false,
-            quantity: false,
-            minimum: false,
-            time: false,
+            ..NO_FIELD
         },
         Kind::ManualRequest => Uses {
             firm: true,
             side: true,
-            number: false,
-            price: false,
             quantity: true,
             minimum: true,
             time: true,
+            ..NO_FIELD
         },
         Kind::AutoRequest => Uses {
             firm: true,
             side: true,
-            number: false,
             price: true,
             quantity: true,
             minimum: true,
             time: true,
+            ..NO_FIELD
         },
         Kind::Answer => Uses {
             firm: true,
@@ -96,26 +74,18 @@ fn uses_of(kind: Kind) -> Uses
             number: true,
             price: true,
             quantity: true,
-            minimum: false,
-            time: false,
+            ..NO_FIELD
         },
         Kind::Confirmation => Uses {
             firm: true,
             side: true,
             number: true,
             price: true,
-            quantity: false,
-            minimum: false,
-            time: false,
+            ..NO_FIELD
         },
         Kind::Clock => Uses {
-            firm: false,
-            side: false,
-            number: false,
-            price: false,
-            quantity: false,
-            minimum: false,
             time: true,
+            ..NO_FIELD
         },
     }
 }
@@ -129,11 +99,11 @@ fn used_at(uses: Uses, place: usize) -> bool
         1 => uses.firm,
         2 => uses.side,
         3 => false,
-        4..=7 => uses.number,
-        8..=11 => uses.price,
-        12..=15 => uses.quantity,
-        16..=19 => uses.minimum,
-        20..=23 => uses.time,
+        NUMBER..PRICE => uses.number,
+        PRICE..QUANTITY => uses.price,
+        QUANTITY..MINIMUM => uses.quantity,
+        MINIMUM..TIME => uses.minimum,
+        TIME..FRONT => uses.time,
         _ => true,
     }
 }
@@ -147,14 +117,12 @@ fn allowed(uses: Uses, place: usize, byte: u8) -> bool
 
 // The first byte that is not zero and belongs to no used field.
 fn first_stray(uses: Uses, bytes: &[u8]) -> Option<usize>
-    ensures { result ≡ first_stray uses bytes.now 0 }
+    ensures { result ≡ position (λ (x : ℕ × ℕ). not (allowed_at uses x.0 x.1)) (enumerate_from 0 bytes.now) }
 {
-    for p in 0..bytes.len() {
-        if !allowed(uses, p, bytes[p]) {
-            return Some(p);
-        }
-    }
-    None
+    bytes
+        .iter()
+        .enumerate()
+        .position(|(place, byte)| !allowed(uses, place, *byte))
 }
 
 // Whether a field may hold a value: it is used, or the value is zero.
@@ -165,140 +133,108 @@ fn is_blank(used: bool, value: u32) -> bool
 }
 
 // Whether no byte is stray, told from whole fields.
-fn is_clean(uses: Uses, frame: &[u8]) -> bool
-    requires { length frame.now ≡ 32 }
+fn is_clean(uses: Uses, frame: &[u8; FRAME]) -> bool
     ensures { result ≡ clean_fields uses frame.now }
 {
     let header = is_blank(uses.firm, u32::from(frame[1]))
         & is_blank(uses.side, u32::from(frame[2]))
         & (frame[3] == 0);
-    let front = is_blank(uses.number, field(frame, 4))
-        & is_blank(uses.price, field(frame, 8))
-        & is_blank(uses.quantity, field(frame, 12));
+    let front = is_blank(uses.number, field(frame, NUMBER))
+        & is_blank(uses.price, field(frame, PRICE))
+        & is_blank(uses.quantity, field(frame, QUANTITY));
     header
         & front
-        & is_blank(uses.minimum, field(frame, 16))
-        & is_blank(uses.time, field(frame, 20))
+        & is_blank(uses.minimum, field(frame, MINIMUM))
+        & is_blank(uses.time, field(frame, TIME))
 }
 
 // The first stray byte of a frame. Only where there is one are its bytes looked at one by one.
-fn stray_in(uses: Uses, frame: &[u8]) -> Option<usize>
-    requires { length frame.now ≡ 32 }
+#[tactic(auto, using(crate::proofs::Stray::clean_none))]
+fn stray_in(uses: Uses, frame: &[u8; FRAME]) -> Option<usize>
     ensures { result ≡ first_stray uses (take 24 frame.now) 0 }
 {
     if is_clean(uses, frame) {
         return None;
     }
-    first_stray(uses, &frame[0..24])
+    first_stray(uses, &frame[..FRONT])
 }
 
-// The message of a kind, from its header and the bytes after that.
-fn build<'a, O: Orders>(kind: Kind, firm: Firm, side: MessageSide, rest: &'a [u8]) -> Message<'a, O>
-    requires { (length rest.now ≡ 28) × (kind ≡ kinds.Order → O.Orders.taken ≡ true) }
-    ensures { meaning result ≡ fields_in kind (kind_code kind ∷ firm.0 ∷ side_code side ∷ 0 ∷ rest.now) }
+// The message of a kind and a side, from its frame.
+fn build<O: Orders>(kind: Kind, side: Option<Side>, frame: &[u8; FRAME]) -> Message<'_, O>
+    requires permitted { kind ≡ kinds.Order → O.Orders.taken ≡ true }
+    requires sided { side_code side ≡ slice_index frame.now 2 }
+    ensures { meaning result ≡ fields_in kind frame.now }
 {
-    let reference = &rest[20..28];
+    let firm = Firm(frame[1]);
+    let reference = &frame[FRONT..];
     match kind {
         Kind::Order => match O::permission() {
             Some(permission) => Message::Order {
                 permission,
                 firm,
                 side,
-                price: Price(field(rest, 4)),
-                quantity: Quantity(field(rest, 8)),
+                price: Price(field(frame, PRICE)),
+                quantity: Quantity(field(frame, QUANTITY)),
                 reference,
             },
             None => unreachable(),
         },
         Kind::Withdrawal => Message::Withdrawal {
             firm,
-            number: Number(field(rest, 0)),
+            number: Number(field(frame, NUMBER)),
             reference,
         },
         Kind::ManualRequest => Message::ManualRequest {
             firm,
             side,
-            quantity: Quantity(field(rest, 8)),
-            min_units: Quantity(field(rest, 12)),
-            delay: Delay(field(rest, 16)),
+            quantity: Quantity(field(frame, QUANTITY)),
+            min_units: Quantity(field(frame, MINIMUM)),
+            delay: Delay(field(frame, TIME)),
             reference,
         },
         Kind::AutoRequest => Message::AutoRequest {
             firm,
             side,
-            limit: Price(field(rest, 4)),
-            quantity: Quantity(field(rest, 8)),
-            min_firms: FirmCount(field(rest, 12)),
-            delay: Delay(field(rest, 16)),
+            limit: Price(field(frame, PRICE)),
+            quantity: Quantity(field(frame, QUANTITY)),
+            min_firms: FirmCount(field(frame, MINIMUM)),
+            delay: Delay(field(frame, TIME)),
             reference,
         },
         Kind::Answer => Message::Answer {
             firm,
             side,
-            request: Number(field(rest, 0)),
-            price: Price(field(rest, 4)),
-            quantity: Quantity(field(rest, 8)),
+            request: Number(field(frame, NUMBER)),
+            price: Price(field(frame, PRICE)),
+            quantity: Quantity(field(frame, QUANTITY)),
             reference,
         },
         Kind::Confirmation => Message::Confirmation {
             firm,
             side,
-            request: Number(field(rest, 0)),
-            price: Price(field(rest, 4)),
+            request: Number(field(frame, NUMBER)),
+            price: Price(field(frame, PRICE)),
             reference,
         },
         Kind::Clock => Message::Clock {
-            time: Time(field(rest, 16)),
+            time: Time(field(frame, TIME)),
             reference,
         },
-    }
-}
-
-// The fault of a frame whose fourth byte is not zero.
-fn header_fault(frame: &[u8], place: usize, orders: bool) -> Fault
-    requires { (length frame.now ≡ 32) × (0 < slice_index frame.now 3) }
-    ensures { Err result ≡ decoded orders place frame.now }
-{
-    let Some(kind) = kind_of(frame[0], orders) else {
-        return Fault::new(Refusal::Kind, place, 0);
-    };
-    match stray_in(uses_of(kind), frame) {
-        Some(byte) => Fault::new(Refusal::Stray, place, byte),
-        None => unreachable(),
-    }
-}
-
-// The message of what should be a frame, or the first reason to refuse it.
-fn decode<'a, O: Orders>(frame: &'a [u8], place: usize) -> Result<Message<'a, O>, Fault>
-    ensures result { answer result ≡ decoded O.Orders.taken place frame.now }
-    ensures rewrites { IfOk result (λ m. encoded (meaning m) ≡ frame.now) }
-    ensures firsts { Firsts }
-{
-    if frame.len() != FRAME {
-        return Err(Fault::new(Refusal::Length, place, 0));
-    }
-    let orders = takes_orders::<O>();
-    let [kind, firm, side, 0, rest @ ..] = frame else {
-        return Err(header_fault(frame, place, orders));
-    };
-    let Some(kind) = kind_of(*kind, orders) else {
-        return Err(Fault::new(Refusal::Kind, place, 0));
-    };
-    if let Some(byte) = stray_in(uses_of(kind), frame) {
-        return Err(Fault::new(Refusal::Stray, place, byte));
-    }
-    match side_of(*side) {
-        Some(side) => Ok(build(kind, Firm(*firm), side, rest)),
-        None => Err(Fault::new(Refusal::SideCode, place, 2)),
     }
 }
 
 // The message of a frame that stands at a place in its file, or the first reason to refuse it. What is not of 32 bytes is no frame.
 // Over an open book, `read::<OpenOrders>`, it may be an order; over any other, `read::<NoOrders>`, there is no such message.
-pub fn read<'a, O: Orders>(frame: &'a [u8], place: usize) -> Result<Message<'a, O>, Fault>
+pub fn read<O: Orders>(frame: &[u8], place: usize) -> Result<Message<'_, O>, Fault>
     ensures result { answer result ≡ decoded O.Orders.taken place frame.now }
     ensures rewrites { IfOk result (λ m. encoded (meaning m) ≡ frame.now) }
     ensures firsts { Firsts }
 {
-    decode(frame, place)
+    let frame = <&[u8; FRAME]>::try_from(frame).map_err(|_| Fault::new(Refusal::Length, place, 0))?;
+    let kind = kind_of(frame[0], takes_orders::<O>()).ok_or(Fault::new(Refusal::Kind, place, 0))?;
+    if let Some(byte) = stray_in(uses_of(kind), frame) {
+        return Err(Fault::new(Refusal::Stray, place, byte));
+    }
+    let side = side_of(frame[2]).map_err(|refusal| Fault::new(refusal, place, 2))?;
+    Ok(build(kind, side, frame))
 }

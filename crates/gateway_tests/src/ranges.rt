@@ -1,5 +1,5 @@
 // Each range at its bounds, written down from the table of units.
-use units::{Delay, Firm, FirmCount, Lot, Number, Price, Quantity, Time};
+use units::{Delay, Firm, FirmCount, Lot, Money, Number, Price, Quantity, Ranged, Time};
 
 #[test]
 fn ranges_end_where_they_should(rt: HostRuntime) {
@@ -35,7 +35,7 @@ fn quantities_are_whole_lots(rt: HostRuntime) {
     );
     assert!(rt; Lot(0).divides(Quantity(0)) && !Lot(0).divides(Quantity(1)));
     assert_eq!(rt;
-        Price(u32::MAX).times(Quantity(u32::MAX)).0,
-        18_446_744_065_119_617_025
+        Price(u32::MAX).times(Quantity(u32::MAX)),
+        Money(18_446_744_065_119_617_025)
     );
 }

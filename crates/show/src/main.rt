@@ -14,24 +14,15 @@ use std::io::{Read, Write};
 // The bytes that are held at a time: so many frames are answered before their lines are written.
 const BUFFER: usize = 65_536;
 
-// Reads once into what the held bytes leave free of the buffer.
-fn fill(input: &mut impl Read, buffer: &mut [u8], held: usize) -> io::Result<usize>
-    requires { held ≤ length buffer.old }
-    ensures { IfOk result (λ n. held + n ≤ length buffer.new) }
-{
-    input.read(&mut buffer[held..])
-}
-
-// Writes the lines of the first `count` pieces of a part of the stream that begins at a place.
+// Writes the lines of the pieces of a part of the stream that begins at a place.
 fn answer(
     output: &mut impl Write,
     text: &mut String,
     bytes: &[u8],
-    count: usize,
     place: usize,
 ) -> anyhow::Result<()> {
     text.clear();
-    lines::pieces(text, bytes, count, place)?;
+    lines::pieces(text, bytes, place)?;
     output.write_all(text.as_bytes())?;
     Ok(())
 }
@@ -47,18 +38,19 @@ fn show(
 {
     let mut held = 0;
     let mut place: usize = 0;
+    // The stream may be of any length, and a loop has to end: it has more turns than any stream has bytes.
     for _ in 0..u64::MAX {
-        let n = fill(input, buffer, held)?;
-        if n == 0 {
+        let read = input.read(&mut buffer[held..])?;
+        if read == 0 {
             break;
         }
-        held += n;
+        held += read;
         let whole = held / FRAME;
-        answer(output, text, &buffer[0..held], whole, place)?;
+        answer(output, text, &buffer[..FRAME * whole], place)?;
         place = place.saturating_add(whole);
-        held = keep_rest(buffer, held);
+        held = keep_rest(&mut buffer[..held]);
     }
-    answer(output, text, &buffer[0..held], 1, place)
+    answer(output, text, &buffer[..held], place)
 }
 
 fn run(rt: &HostRuntime) -> anyhow::Result<()> {

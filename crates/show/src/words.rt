@@ -1,166 +1,154 @@
 // Messages and faults in words.
 use gateway::{Fault, Message};
-use std::alloc::AllocError;
-use units::{Delay, Firm, FirmCount, Layer, MessageSide, Price, Quantity, Refusal};
+use std::fmt;
+use units::{Refusal, Side};
 
-// What a firm wants of a quantity.
-fn wants(side: MessageSide) -> &'static str {
-    match side {
-        MessageSide::None => "on no side",
-        MessageSide::Buy => "to buy",
-        MessageSide::Sell => "to sell",
-    }
-}
+// What a firm wants of a quantity: the side that its message names, if it names one.
+#[derive(Clone, Copy)]
+struct Wants(Option<Side>);
 
-// The eight bytes as text, those that are no printable ASCII in hexadecimal.
-fn reference(text: &mut String, bytes: &[u8]) -> Result<(), AllocError> {
-    text.push_str(", reference \"")?;
-    for b in bytes {
-        let byte = *b;
-        match byte {
-            b'"' | b'\\' => write!(text, "\\{}", char::from(byte))?,
-            b' '..=b'~' => text.push(char::from(byte))?,
-            _ => write!(text, "\\x{byte:02x}")?,
-        }
-    }
-    text.push_str("\"")
-}
-
-// A number after the words that lead to it.
-fn number(text: &mut String, words: &str, value: u32) -> Result<(), AllocError> {
-    write!(text, "{words}{value}")
-}
-
-// Who sends what kind, and on which side.
-fn sent(text: &mut String, kind: &str, firm: Firm, side: MessageSide) -> Result<(), AllocError> {
-    let who = firm.0;
-    let side = wants(side);
-    write!(text, "{kind} by firm {who} {side}")
-}
-
-// A quantity at a price.
-fn offered(text: &mut String, quantity: Quantity, price: Price) -> Result<(), AllocError> {
-    number(text, " ", quantity.0)?;
-    number(text, " at ", price.0)
-}
-
-// How long a request stays open.
-fn open_for(text: &mut String, delay: Delay) -> Result<(), AllocError> {
-    let seconds = delay.0;
-    write!(text, ", open for {seconds} s")
-}
-
-// The least of a manual request is units.
-fn at_least_units(text: &mut String, least: Quantity) -> Result<(), AllocError> {
-    number(text, ", at least ", least.0)
-}
-
-// The least of an automatic request is firms.
-fn at_least_firms(text: &mut String, least: FirmCount) -> Result<(), AllocError> {
-    let firms = least.0;
-    write!(
-        text,
-        " on average or better, from at least {firms} firms answering"
-    )
-}
-
-// The message with its fields, but for the reference; answers the reference.
-fn fields<'a>(text: &mut String, message: &Message<'a>) -> Result<&'a [u8], AllocError> {
-    match *message {
-        Message::Order {
-            firm,
-            side,
-            price,
-            quantity,
-            reference,
-            ..
-        } => {
-            sent(text, "book order", firm, side)?;
-            offered(text, quantity, price)?;
-            Ok(reference)
-        }
-        Message::Withdrawal {
-            firm,
-            number: what,
-            reference,
-        } => {
-            number(text, "withdrawal by firm ", u32::from(firm.0))?;
-            number(text, " of number ", what.0)?;
-            Ok(reference)
-        }
-        Message::ManualRequest {
-            firm,
-            side,
-            quantity,
-            min_units,
-            delay,
-            reference,
-        } => {
-            sent(text, "manual request", firm, side)?;
-            number(text, " ", quantity.0)?;
-            at_least_units(text, min_units)?;
-            open_for(text, delay)?;
-            Ok(reference)
-        }
-        Message::AutoRequest {
-            firm,
-            side,
-            limit,
-            quantity,
-            min_firms,
-            delay,
-            reference,
-        } => {
-            sent(text, "automatic request", firm, side)?;
-            offered(text, quantity, limit)?;
-            at_least_firms(text, min_firms)?;
-            open_for(text, delay)?;
-            Ok(reference)
-        }
-        Message::Answer {
-            firm,
-            side,
-            request,
-            price,
-            quantity,
-            reference,
-        } => {
-            sent(text, "answer", firm, side)?;
-            offered(text, quantity, price)?;
-            number(text, " to request ", request.0)?;
-            Ok(reference)
-        }
-        Message::Confirmation {
-            firm,
-            side,
-            request,
-            price,
-            reference,
-        } => {
-            sent(text, "confirmation", firm, side)?;
-            number(text, " at ", price.0)?;
-            number(text, " on average or better under request ", request.0)?;
-            Ok(reference)
-        }
-        Message::Clock { time, reference } => {
-            number(text, "clock step to ", time.0)?;
-            text.push_str(" ms")?;
-            Ok(reference)
+impl fmt::Display for Wants {
+    fn fmt<W: fmt::Write>(&self, f: &mut fmt::Formatter<W>) -> fmt::Result {
+        match self.0 {
+            Some(side) => write!(f, "to {side}"),
+            None => f.write_str("on no side"),
         }
     }
 }
 
-// The message, with all its fields.
-pub(super) fn message(text: &mut String, message: &Message) -> Result<(), AllocError> {
-    let bytes = fields(text, message)?;
-    reference(text, bytes)
+// A reference between quotes, those of its bytes that are no printable ASCII in hexadecimal.
+#[derive(Clone, Copy)]
+struct Quoted<'a>(&'a [u8]);
+
+impl fmt::Display for Quoted<'_> {
+    fn fmt<W: fmt::Write>(&self, f: &mut fmt::Formatter<W>) -> fmt::Result {
+        f.write_char('"')?;
+        for &byte in self.0 {
+            match byte {
+                b'"' | b'\\' => write!(f, "\\{}", char::from(byte))?,
+                b' '..=b'~' => f.write_char(char::from(byte))?,
+                _ => write!(f, "\\x{byte:02x}")?,
+            }
+        }
+        f.write_char('"')
+    }
 }
 
-fn by(layer: Layer) -> &'static str {
-    match layer {
-        Layer::File => "file",
-        Layer::Gateway => "gateway",
-        Layer::Market => "market",
+// A message, with all its fields.
+#[derive(Clone, Copy)]
+pub(super) struct Words<'a>(pub(super) &'a Message<'a>);
+
+impl fmt::Display for Words<'_> {
+    fn fmt<W: fmt::Write>(&self, f: &mut fmt::Formatter<W>) -> fmt::Result {
+        let reference = match *self.0 {
+            Message::Order {
+                firm,
+                side,
+                price,
+                quantity,
+                reference,
+                ..
+            } => {
+                write!(
+                    f,
+                    "book order by firm {} {} {} at {}",
+                    firm.0,
+                    Wants(side),
+                    quantity.0,
+                    price.0
+                )?;
+                reference
+            }
+            Message::Withdrawal {
+                firm,
+                number,
+                reference,
+            } => {
+                write!(f, "withdrawal by firm {} of number {}", firm.0, number.0)?;
+                reference
+            }
+            Message::ManualRequest {
+                firm,
+                side,
+                quantity,
+                min_units,
+                delay,
+                reference,
+            } => {
+                write!(
+                    f,
+                    "manual request by firm {} {} {}, at least {}, open for {} s",
+                    firm.0,
+                    Wants(side),
+                    quantity.0,
+                    min_units.0,
+                    delay.0
+                )?;
+                reference
+            }
+            Message::AutoRequest {
+                firm,
+                side,
+                limit,
+                quantity,
+                min_firms,
+                delay,
+                reference,
+            } => {
+                write!(
+                    f,
+                    "automatic request by firm {} {} {} at {} on average or better, from at least {} firms answering, open for {} s",
+                    firm.0,
+                    Wants(side),
+                    quantity.0,
+                    limit.0,
+                    min_firms.0,
+                    delay.0
+                )?;
+                reference
+            }
+            Message::Answer {
+                firm,
+                side,
+                request,
+                price,
+                quantity,
+                reference,
+            } => {
+                write!(
+                    f,
+                    "answer by firm {} {} {} at {} to request {}",
+                    firm.0,
+                    Wants(side),
+                    quantity.0,
+                    price.0,
+                    request.0
+                )?;
+                reference
+            }
+            Message::Confirmation {
+                firm,
+                side,
+                request,
+                price,
+                reference,
+            } => {
+                write!(
+                    f,
+                    "confirmation by firm {} {} at {} on average or better under request {}",
+                    firm.0,
+                    Wants(side),
+                    price.0,
+                    request.0
+                )?;
+                reference
+            }
+            Message::Clock { time, reference } => {
+                write!(f, "clock step to {} ms", time.0)?;
+                reference
+            }
+        };
+        write!(f, ", reference {}", Quoted(reference))
     }
 }
 
@@ -175,17 +163,24 @@ fn why(refusal: Refusal) -> &'static str {
     }
 }
 
-// The fault, with layer, number and byte.
-pub(super) fn fault(text: &mut String, fault: &Fault) -> Result<(), AllocError> {
-    let (name, layer, number, byte) = (
-        by(fault.layer),
-        fault.layer.number(),
-        fault.refusal.number(),
-        fault.byte,
-    );
-    let why = why(fault.refusal);
-    write!(
-        text,
-        "refused by the {name} (layer {layer}) with {number} at byte {byte}: {why}"
-    )
+// A fault, with layer, number and byte.
+#[derive(Clone, Copy)]
+pub(super) struct Reason<'a>(pub(super) &'a Fault);
+
+impl fmt::Display for Reason<'_> {
+    fn fmt<W: fmt::Write>(&self, f: &mut fmt::Formatter<W>) -> fmt::Result {
+        let Fault {
+            layer,
+            refusal,
+            byte,
+            ..
+        } = *self.0;
+        write!(
+            f,
+            "refused by the {layer} (layer {}) with {} at byte {byte}: {}",
+            u8::from(layer),
+            u8::from(refusal),
+            why(refusal)
+        )
+    }
 }
