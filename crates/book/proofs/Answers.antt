@@ -40,8 +40,4 @@ ok_tells b t r e q = sym (is_ok_when b) ∙ ap is_ok (sym e) ∙ sym q
 -- what the result of a making tells
 pub made_ok : (why : Option MakeError) (new m : Meaning) → Ok m ≡ made_as why new → (why ≡ None) × (m ≡ new)
 made_ok None new m e = (refl, cc)
-made_ok (Some x) new m e = let z : ◌≡◌ {A = ℕ} 0 1 = cc in absurd (omega arith)
-
-pub made_err : (why : Option MakeError) (new : Meaning) (x : MakeError) → Err x ≡ made_as why new → why ≡ Some x
-made_err None new x e = let z : ◌≡◌ {A = ℕ} 0 1 = cc in absurd (omega arith)
-made_err (Some y) new x e = cc
+made_ok (Some x) new m e = absurd (grind arith)

@@ -4,3 +4,6 @@ pub mod Ranges
 pub mod Sound
 pub mod Lefts
 pub mod Telling
+pub mod Parts
+pub mod Making
+pub mod Listing

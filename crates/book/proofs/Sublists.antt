@@ -1,6 +1,7 @@
 -- Lists of offers with some left out: their numbers stay apart.
-use Rattle.std.proofs.Common.{◌≡◌, ℕ, ◌≤◌, true, false, not, eqb, List, [], ◌∷◌, ◌++◌, length, sym, refl, ap, ◌∙◌, arith}
-use Rattle.std.proofs.lemmas.Bool.{ne_eqb, eqb-false, and_parts, and_from, or_parts, or_from, not-true, not_from_false, cond_both}
+use Rattle.std.proofs.Common.{◌≡◌, ℕ, ◌≤◌, true, false, eqb, List, [], ◌∷◌, ◌++◌, length, refl, arith}
+use Rattle.std.proofs.lemmas.Bool.Decides.{nat_tests}
+use Rattle.std.proofs.lemmas.Bool.{cond_both}
 use Rattle.book.specs.declared.Offer.{Offer}
 use Rattle.book.specs.Meaning.{numbered, has, taken, without}
 use Rattle.book.specs.Laws.{distinct}
@@ -40,16 +41,16 @@ sub_length (skip s) = let h = sub_length s in omega arith
 
 pub sub_has : {xs ys : List Offer} → Sub xs ys → (n : ℕ) → has ys n ≡ false → has xs n ≡ false
 sub_has none n h = refl
-sub_has (keep {x} {y} e s) n h = let p = or_parts _ _ h in or_from _ _ (ap (λ (k : ℕ). eqb k n) e ∙ p.0) (sub_has s n p.1)
-sub_has (skip s) n h = sub_has s n (or_parts _ _ h).1
+sub_has (keep e s) n h = let r = sub_has s n in grind (arith, nat_tests)
+sub_has (skip s) n h = let r = sub_has s n in grind (arith, nat_tests)
 
 pub sub_distinct : {xs ys : List Offer} → Sub xs ys → distinct ys ≡ true → distinct xs ≡ true
 sub_distinct none h = refl
 sub_distinct (keep {x} {y} {xs} {ys} e s) h =
-    let p = and_parts _ _ h in
-    let q : has ys x.number.0 ≡ false = ap (has ys) e ∙ not-true _ p.0 in
-    and_from _ _ (not_from_false _ (sub_has s x.number.0 q)) (sub_distinct s p.1)
-sub_distinct (skip s) h = sub_distinct s (and_parts _ _ h).1
+    let d = sub_distinct s in
+    let n = sub_has s x.number.0 in
+    grind (arith, nat_tests)
+sub_distinct (skip s) h = let d = sub_distinct s in grind (arith, nat_tests)
 
 pub sub_none : (ys : List Offer) → Sub [] ys
 sub_none [] = none
@@ -67,16 +68,15 @@ sub_right (x ∷ xs) ys = skip (sub_right xs ys)
 
 pub has_append : (xs ys : List Offer) (n : ℕ) → has xs n ≡ false → has ys n ≡ false → has (xs ++ ys) n ≡ false
 has_append [] ys n h k = k
-has_append (x ∷ xs) ys n h k = let p = or_parts (numbered n x) (has xs n) h in or_from _ _ p.0 (has_append xs ys n p.1 k)
+has_append (x ∷ xs) ys n h k = let r = has_append xs ys n in grind (arith, nat_tests)
 
 has_insert : (xs ys : List Offer) (o : Offer) (n : ℕ) → has (xs ++ ys) n ≡ false → numbered n o ≡ false → has ((xs ++ o ∷ []) ++ ys) n ≡ false
-has_insert [] ys o n h k = or_from _ _ k h
-has_insert (x ∷ xs) ys o n h k = let p = or_parts (numbered n x) (has (xs ++ ys) n) h in or_from _ _ p.0 (has_insert xs ys o n p.1 k)
+has_insert [] ys o n h k = grind (arith, nat_tests)
+has_insert (x ∷ xs) ys o n h k = let r = has_insert xs ys o n in grind (arith, nat_tests)
 
 pub distinct_insert : (xs ys : List Offer) (o : Offer) → distinct (xs ++ ys) ≡ true → has xs o.number.0 ≡ false → has ys o.number.0 ≡ false → distinct ((xs ++ o ∷ []) ++ ys) ≡ true
-distinct_insert [] ys o d h k = and_from _ _ (not_from_false _ k) d
+distinct_insert [] ys o d h k = grind (arith, nat_tests)
 distinct_insert (x ∷ xs) ys o d h k =
-    let p = or_parts (numbered o.number.0 x) (has xs o.number.0) h in
-    let q = and_parts (not (has (xs ++ ys) x.number.0)) (distinct (xs ++ ys)) d in
-    let e : numbered x.number.0 o ≡ false = ne_eqb o.number.0 x.number.0 (λ z. eqb-false x.number.0 o.number.0 p.0 (sym z)) in
-    and_from _ _ (not_from_false _ (has_insert xs ys o x.number.0 (not-true _ q.0) e)) (distinct_insert xs ys o q.1 p.1 k)
+    let r = distinct_insert xs ys o in
+    let n = has_insert xs ys o x.number.0 in
+    grind (arith, nat_tests)

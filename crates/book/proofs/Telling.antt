@@ -1,11 +1,12 @@
 -- Takes and removals, told by what stands before and behind the offer.
-use Rattle.std.proofs.Common.{◌≡◌, ℕ, Bool, true, false, cond, ◌&&◌, eqb, leb, List, [], ◌∷◌, ◌++◌, refl, ap, ◌∙◌, arith}
-use Rattle.std.proofs.lemmas.Bool.{eqb-true, leb-true, and_parts, both_ways, cond-true}
+use Rattle.std.proofs.Common.{◌≡◌, ℕ, Bool, true, false, cond, eqb, List, [], ◌∷◌, ◌++◌, refl, ap, ◌∙◌, arith}
+use Rattle.std.proofs.lemmas.Bool.Decides.{nat_tests}
+use Rattle.std.proofs.lemmas.Bool.{eqb-true, cond-true}
 use Rattle.units.specs.Sides.{other}
 use Rattle.units.specs.declared.side.Side.{Side}
 use Rattle.units.specs.declared.side.Side.TheVariants.{Buy, Sell}
 use Rattle.book.specs.declared.Offer.{Offer}
-use Rattle.book.specs.Meaning.{Meaning, side_of, with_side, numbered, has, left_of, less, taken, without, lots, can_take}
+use Rattle.book.specs.Meaning.{Meaning, side_of, with_side, numbered, has, left_of, less, taken, without, can_take}
 use Rattle.book.specs.Words.{Found, rest, Kept, TakesInWords, RemovalsInWords}
 
 -- a number that a list has, found in it
@@ -16,7 +17,7 @@ record Told (os : List Offer) (n : ℕ) : Type 0 where
   without : without os n ≡ found.before ++ found.behind
 
 told : (os : List Offer) (n : ℕ) → has os n ≡ true → Told os n
-told [] n h = absurd (both_ways false refl h)
+told [] n h = absurd (grind arith)
 told (o ∷ os) n h = go (numbered n o) refl (told os n)
   where
     here : (a : ℕ) → cond (eqb o.left.0 a) os (less o a ∷ os) ≡ rest o a ++ os
@@ -54,14 +55,11 @@ kept_as s m x y e k = record { opposite = ap (λ (z : Meaning). side_of z (other
 pub takes_in_words : TakesInWords
 takes_in_words m s n a t =
     let os = side_of m s in
-    let p = and_parts (has os n) (lots m.lot a && leb a (left_of os n)) t in
-    let q = and_parts (lots m.lot a) (leb a (left_of os n)) p.1 in
-    let l = leb-true a (left_of os n) q.1 in
-    let w = told os n p.0 in
+    let w = told os n (grind (arith, nat_tests)) in
     let e = cond-true (can_take m s n a) (with_side m s (taken os n a)) m t in
     record {
       found = w.found;
-      enough = omega (arith, l, w.left);
+      enough = (let l = w.left in grind (arith, nat_tests));
       list = ap (λ (z : Meaning). side_of z s) e ∙ side_with m s (taken os n a) ∙ w.taken a;
       kept = kept_as s m _ _ e (kept_with m s (taken os n a));
     }

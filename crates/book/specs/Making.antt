@@ -31,3 +31,13 @@ made_as (Some e) new = Err e
 abbrev pub result_means : {B : Type 0} → (B → Meaning) → Result B MakeError → Result Meaning MakeError
 result_means f (Ok b) = Ok (f b)
 result_means f (Err e) = Err e
+
+-- the answer of a making whose book goes into a place
+abbrev pub fill_result : {B : Type 0} → Result B MakeError → Result (Unit {0}) MakeError
+fill_result (Ok b) = Ok tt
+fill_result (Err e) = Err e
+
+-- what the place holds after: the new book, or what it held before
+abbrev pub filled : {B : Type 0} → Result B MakeError → Option B → Option B
+filled (Ok b) old = Some b
+filled (Err e) old = old

@@ -1,5 +1,5 @@
 -- What a book means: its offers to buy, its offers to sell and its lot; and what a take, an entry and a removal make of them.
-use Rattle.std.specs.Prelude.{ℕ, zero, suc, ◌-◌, Bool, true, false, cond, not, ◌&&◌, ◌||◌, List, [], ◌∷◌, ◌++◌, length, Some, None, Ok, Err, Option, Result, ◌==◌, nat_le, nat_lt}
+use Rattle.std.specs.Prelude.{ℕ, ◌-◌, Bool, true, false, cond, not, ◌&&◌, ◌||◌, List, [], ◌∷◌, ◌++◌, length, Ok, Err, Result, ◌==◌, nat_le, nat_lt}
 use Rattle.units.specs.Ranges.{is_number, is_price, is_quantity, is_whole}
 use Rattle.units.specs.declared.side.Side.{Side}
 use Rattle.units.specs.declared.side.Side.TheVariants.{Buy, Sell}
@@ -22,12 +22,6 @@ side_of m Sell = m.sells
 abbrev pub with_side : Meaning → Side → List Offer → Meaning
 with_side m Buy os = record { buys = os; sells = m.sells; lot = m.lot }
 with_side m Sell os = record { buys = m.buys; sells = os; lot = m.lot }
-
--- the offer at place k, from 0; none from the list's length on
-abbrev pub at_place : List Offer → ℕ → Option Offer
-at_place [] k = None
-at_place (o ∷ os) zero = Some o
-at_place (o ∷ os) (suc k) = at_place os k
 
 -- the offer has the number n
 abbrev pub numbered : ℕ → Offer → Bool

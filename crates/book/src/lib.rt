@@ -1,18 +1,25 @@
 // Offers of one instrument, and what every kind of book of them promises.
 #![tactic(auto)]
 
-ghost use Rattle.std.specs.Prelude.{◌≡◌, ℕ, ◌≤◌, length};
-ghost use Rattle.book.specs.Meaning.{Meaning, in_range, lots, side_of, at_place, take_result, after_take, enter_result, after_enter, remove_result, after_remove};
+ghost use Rattle.std.specs.Prelude.{◌≡◌, ℕ, ◌≤◌, false, length, slice_get, is_ok};
+ghost use Rattle.book.specs.Meaning.{Meaning, in_range, lots, side_of, take_result, after_take, enter_result, after_enter, remove_result, after_remove};
 ghost use Rattle.book.specs.Laws.{Sound};
 ghost use Rattle.book.specs.Words.{TakesInWords, RemovalsInWords};
-ghost use Rattle.book.specs.Making.{refusal_of};
+ghost use Rattle.book.specs.Making.{refusal_of, fill_result, filled};
 
-use units::{Firm, Lot, Number, OpenOrders, Orders, Price, Quantity, Refusal, Side};
+use thiserror::Error;
+use units::{Firm, Lot, Number, OpenOrders, Orders, Price, Quantity, Ranged, Refusal, Side};
+
+mod iter;
+mod sides;
+
+pub use iter::{SideOffers, offers};
+pub use sides::{OneSide, Sides};
 
 // The most offers a side that any kind of book may name.
 pub const MOST_A_SIDE: usize = 128;
 
-#[derive(Clone, Copy)]
+#[derive(Clone, Copy, Debug, PartialEq, Eq)]
 pub struct Offer {
     pub number: Number,
     pub firm: Firm,
@@ -25,31 +32,46 @@ impl Offer {
     pub fn in_range(self, lot: Lot) -> bool
         ensures { result ≡ in_range lot.0 self }
     {
-        self.number.in_range() && (self.price.in_range() && self.left.in_range(lot))
+        self.number.in_range() && self.price.in_range() && self.left.in_range(lot)
+    }
+}
+
+// An offer of nothing: what a place holds that no offer fills.
+impl Default for Offer {
+    ghost is_default = { λ o. o.left.0 ≡ 0 };
+
+    fn default() -> Offer {
+        Offer {
+            number: Number(0),
+            firm: Firm(0),
+            price: Price(0),
+            left: Quantity(0),
+        }
     }
 }
 
 // The book turned a take, an entry or a removal away, and is as it was.
-#[derive(Clone, Copy)]
+#[derive(Clone, Copy, Debug, PartialEq, Eq, Error)]
+#[error("the book refuses this")]
 pub struct Refused;
 
 // Why a book is not made: the place it was to fill is as it was.
-#[derive(Clone, Copy)]
+#[derive(Clone, Copy, Debug, PartialEq, Eq, Error)]
 pub enum MakeError {
-    // a rung's price is out of range
+    #[error("a rung's price is out of range")]
     Price,
-    // the lot is out of range, or the rungs' quantity is none of that lot
+    #[error("the lot is out of range, or the rungs' quantity is none of that lot")]
     Quantity,
-    // over 64 rungs
+    #[error("over 64 rungs")]
     Full,
 }
 
-impl MakeError {
-    // The refusal that stands for it, with its number.
-    pub fn refusal(self) -> Refusal
-        ensures { result ≡ refusal_of self }
-    {
-        match self {
+// The refusal that stands for it, with its number.
+impl From<MakeError> for Refusal {
+    ghost from_gives = { λ e r. r ≡ refusal_of e };
+
+    fn from(error: MakeError) -> Refusal {
+        match error {
             MakeError::Price => Refusal::Price,
             MakeError::Quantity => Refusal::Quantity,
             MakeError::Full => Refusal::Full,
@@ -57,11 +79,21 @@ impl MakeError {
     }
 }
 
+// Puts a book that was made into its place, which a refusal leaves as it was.
+pub fn fill<B: Drop>(place: &mut Option<B>, made: Result<B, MakeError>) -> Result<(), MakeError>
+    ensures result { result ≡ fill_result made }
+    ensures after { place.new ≡ filled made place.old }
+    ensures unchanged { is_ok result ≡ false → place.new ≡ place.old }
+{
+    *place = Some(made?);
+    Ok(())
+}
+
 // Whether an amount is whole lots, at least one: what a take may ask for.
 pub fn whole_lots(lot: Lot, amount: Quantity) -> bool
     ensures { result ≡ lots lot.0 amount.0 }
 {
-    0 < amount.0 && lot.divides(amount)
+    Quantity(0) < amount && lot.divides(amount)
 }
 
 // A kind of book: everything above relies on these promises alone.
@@ -69,17 +101,13 @@ pub trait Book {
     // Whether the kind takes new orders: `OpenOrders` or `NoOrders`.
     type Orders: Orders;
 
-    // The most offers of a side.
-    const MOST: usize;
-
     // The offers to buy, the offers to sell and the lot.
     ghost means: { Self → Meaning };
 
-    ghost most: { ℕ };
+    ghost MOST: { ℕ };
 
-    // The most offers of a side, as a call whose contract says its value.
-    fn limit() -> usize
-        ensures { result ≡ most };
+    // The most offers of a side.
+    const MOST: usize;
 
     fn lot(&self) -> Lot
         ensures { result.0 ≡ (means self.now).lot };
@@ -89,16 +117,16 @@ pub trait Book {
 
     // The offer at a place of its side, from 0; none from the side's count on.
     fn offer(&self, side: Side, place: usize) -> Option<Offer>
-        ensures { result ≡ at_place (side_of (means self.now) side) place };
+        ensures { result ≡ slice_get (side_of (means self.now) side) place };
 
     // Takes an amount from the offer of the number, or is refused and changes nothing.
     fn take(&mut self, side: Side, number: Number, amount: Quantity) -> Result<(), Refused>
         ensures result { result ≡ take_result (means self.old) side number.0 amount.0 }
         ensures after { means self.new ≡ after_take (means self.old) side number.0 amount.0 };
 
-    ghost few: { most ≤ 128 };
+    ghost few: { MOST ≤ 128 };
 
-    ghost lawful: { (b : Self) → Sound most (means b) };
+    ghost lawful: { (b : Self) → Sound MOST (means b) };
 
     ghost takes: { TakesInWords };
 }
@@ -107,8 +135,8 @@ pub trait Book {
 pub trait OpenBook: Book<Orders = OpenOrders> {
     // Puts an offer at the end of its side, or is refused and changes nothing.
     fn enter(&mut self, side: Side, offer: Offer) -> Result<(), Refused>
-        ensures result { result ≡ enter_result Self.Book.most (Self.Book.means self.old) side offer }
-        ensures after { Self.Book.means self.new ≡ after_enter Self.Book.most (Self.Book.means self.old) side offer };
+        ensures result { result ≡ enter_result Self.Book.MOST (Self.Book.means self.old) side offer }
+        ensures after { Self.Book.means self.new ≡ after_enter Self.Book.MOST (Self.Book.means self.old) side offer };
 
     // Removes the offer of the number, or is refused and changes nothing.
     fn remove(&mut self, side: Side, number: Number) -> Result<(), Refused>

@@ -3,7 +3,7 @@
 
 ghost use Rattle.std.specs.Prelude.{◌≡◌, true, is_ok};
 
-use book::{Book, MakeError, Offer, OpenBook, Refused};
+use book::{Book, MakeError, Offer, OpenBook, Refused, Sides, offers};
 use kept::KeptBook;
 use ladder::{Ladder, Rungs, Step};
 use mixed::MixedBook;
@@ -15,20 +15,21 @@ mod tests;
 
 const LOT: Lot = Lot(10);
 
-// Three rungs to buy at 990, 980 and 970.
-const BUYS: Rungs = Rungs {
-    count: 3,
-    quantity: Quantity(50),
-    first: Price(990),
-    step: Step(10),
-};
-
-// Two rungs to sell at 1,000 and 1,005.
-const SELLS: Rungs = Rungs {
-    count: 2,
-    quantity: Quantity(40),
-    first: Price(1000),
-    step: Step(5),
+// Three rungs to buy at 990, 980 and 970, two to sell at 1,000 and 1,005.
+const PLAN: Sides<Rungs> = Sides {
+    lot: LOT,
+    buys: Rungs {
+        count: 3,
+        quantity: Quantity(50),
+        first: Price(990),
+        step: Step(10),
+    },
+    sells: Rungs {
+        count: 2,
+        quantity: Quantity(40),
+        first: Price(1000),
+        step: Step(5),
+    },
 };
 
 fn kept_book() -> Result<KeptBook, MakeError>
@@ -40,13 +41,13 @@ fn kept_book() -> Result<KeptBook, MakeError>
 fn ladder() -> Result<Ladder, MakeError>
     ensures { is_ok result ≡ true }
 {
-    Ladder::new(LOT, BUYS, SELLS)
+    Ladder::new(PLAN)
 }
 
 fn mixed_book() -> Result<MixedBook, MakeError>
     ensures { is_ok result ≡ true }
 {
-    MixedBook::new(LOT, BUYS, SELLS)
+    MixedBook::new(PLAN)
 }
 
 fn order(number: u32, firm: u8, price: u32, quantity: u32) -> Offer {
@@ -58,13 +59,7 @@ fn order(number: u32, firm: u8, price: u32, quantity: u32) -> Offer {
     }
 }
 
-fn side_name(side: Side) -> &'static str {
-    match side {
-        Side::Buy => "buy",
-        Side::Sell => "sell",
-    }
-}
-
+// A `Result` has no words of its own to print.
 fn verdict(answer: Result<(), Refused>) -> &'static str {
     match answer {
         Ok(()) => "done",
@@ -74,24 +69,19 @@ fn verdict(answer: Result<(), Refused>) -> &'static str {
 
 // Every offer of a side, in order.
 fn tell_side<B: Book>(rt: HostRuntime, book: &B, side: Side) -> io::Result<()> {
-    let name = side_name(side);
     let count = book.count(side);
-    println!(rt; "  to {name}: {count}")?;
-    for place in 0..count {
-        if let Some(offer) = book.offer(side, place) {
-            let number = offer.number.0;
-            let firm = offer.firm.0;
-            let price = offer.price.0;
-            let left = offer.left.0;
-            println!(rt; "    number {number}: {left} at {price} by firm {firm}")?;
-        }
+    println!(rt; "  to {side}: {count}")?;
+    for offer in offers(book, side) {
+        println!(rt;
+            "    number {}: {} at {} by firm {}",
+            offer.number.0, offer.left.0, offer.price.0, offer.firm.0
+        )?;
     }
     Ok(())
 }
 
 fn tell<B: Book>(rt: HostRuntime, book: &B) -> io::Result<()> {
-    let lot = book.lot().0;
-    println!(rt; "  lot {lot}")?;
+    println!(rt; "  lot {}", book.lot().0)?;
     tell_side(rt, book, Side::Buy)?;
     tell_side(rt, book, Side::Sell)
 }
@@ -104,8 +94,7 @@ fn take<B: Book>(
     amount: u32,
 ) -> io::Result<()> {
     let answer = verdict(book.take(side, Number(number), Quantity(amount)));
-    let name = side_name(side);
-    println!(rt; "  take {amount} of number {number} to {name}: {answer}")
+    println!(rt; "  take {amount} of number {number} to {side}: {answer}")
 }
 
 // The calls that every kind of book answers.
@@ -123,15 +112,12 @@ fn drive<B: Book>(rt: HostRuntime, book: &mut B) -> io::Result<()> {
 
 fn enter<B: OpenBook>(rt: HostRuntime, book: &mut B, side: Side, offer: Offer) -> io::Result<()> {
     let answer = verdict(book.enter(side, offer));
-    let name = side_name(side);
-    let number = offer.number.0;
-    println!(rt; "  enter number {number} to {name}: {answer}")
+    println!(rt; "  enter number {} to {side}: {answer}", offer.number.0)
 }
 
 fn remove<B: OpenBook>(rt: HostRuntime, book: &mut B, side: Side, number: u32) -> io::Result<()> {
     let answer = verdict(book.remove(side, Number(number)));
-    let name = side_name(side);
-    println!(rt; "  remove number {number} to {name}: {answer}")
+    println!(rt; "  remove number {number} to {side}: {answer}")
 }
 
 // The calls that an open book answers besides.

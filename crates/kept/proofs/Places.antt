@@ -1,11 +1,10 @@
 -- What the place of a number in a list of offers tells of the list.
-use Rattle.std.proofs.Common.{◌≡◌, ℕ, zero, suc, ◌+◌, ◌<◌, ◌≤◌, Bool, true, false, List, [], ◌∷◌, length, get_or, drop, set, is_some, Some, None, sym, refl, subst, arith}
-use Rattle.std.specs.List.{remove}
-use Rattle.std.proofs.lemmas.Bool.{eq-eqb, ne_eqb}
-use Rattle.std.proofs.lemmas.List.{drop_more, drop_all}
+use Rattle.std.proofs.Common.{◌≡◌, ℕ, suc, ◌+◌, ◌<◌, ◌≤◌, Bool, true, false, List, [], ◌∷◌, length, position, get_or, set, ltb, cond, is_some, Some, None, sym, refl, ap, subst, ◌∙◌, ⊎_elim, arith}
+use Rattle.std.specs.List.{remove, refill, position_or_len}
+use Rattle.std.proofs.lemmas.Bool.{eq-eqb, ne_eqb, ltb-true, ltb-false, cases_Bool}
 use Rattle.book.specs.declared.Offer.{Offer}
-use Rattle.book.specs.Meaning.{numbered, has, left_of, less, taken, without, at_place}
-use Rattle.kept.specs.Places.{place_from}
+use Rattle.book.specs.Meaning.{numbered, has, left_of, less, taken, without}
+use Rattle.std.proofs.lemmas.List.{take_at, length-set}
 
 pub data Placed (n : ℕ) : List Offer → ℕ → Type 0 where
   here : {o : Offer} {os : List Offer} → numbered n o ≡ true → Placed n (o ∷ os) 0
@@ -39,53 +38,76 @@ taken_part (here {o} {os} e) a d q =
     simp (e, ne_eqb _ _ l)
 taken_part (there e p) a d q = simp (e, taken_part p a d (simp e at q))
 
-pub placed_from : (k : ℕ) (os : List Offer) (n j : ℕ) → place_from k os n ≡ Some j → (i : ℕ) × (j ≡ k + i) × Placed n os i
-placed_from k [] n j e = let z : ◌≡◌ {A = ℕ} 0 1 = cc in absurd (omega arith)
-placed_from k (o ∷ os) n j e = go (numbered n o) refl (placed_from (k + 1) os n j)
-  where
-    go : (b : Bool) → numbered n o ≡ b → (place_from (k + 1) os n ≡ Some j → (i : ℕ) × (j ≡ k + 1 + i) × Placed n os i) → (i : ℕ) × (j ≡ k + i) × Placed n (o ∷ os) i
-    go true t h = let s : k ≡ j = grind (arith, simp t at e) in (0, omega arith, here t)
-    go false t h = let r = h (simp t at e) in (suc r.0, omega (arith, r.1), there t r.2)
+-- what the answer of a search tells of the test that it stands on
+is_some_of : (b : Bool) (k : ℕ) → is_some (cond b (Some k) None) ≡ b
+is_some_of true k = refl
+is_some_of false k = refl
 
-pub none_from : (k : ℕ) (os : List Offer) (n : ℕ) → place_from k os n ≡ None → has os n ≡ false
-none_from k [] n e = refl
-none_from k (o ∷ os) n e = go (numbered n o) refl (none_from (k + 1) os n)
-  where
-    go : (b : Bool) → numbered n o ≡ b → (place_from (k + 1) os n ≡ None → has os n ≡ false) → has (o ∷ os) n ≡ false
-    go true t h = let f = simp t at e in let z : ◌≡◌ {A = ℕ} 0 1 = cc in absurd (omega arith)
-    go false t h = simp (t, h (simp t at e))
+some_of : (b : Bool) (i k : ℕ) → Some i ≡ cond b (Some k) None → (b ≡ true) × (k ≡ i)
+some_of true i k e = (refl, cc)
+some_of false i k e = let z : ◌≡◌ {A = ℕ} 0 1 = cc in absurd (omega arith)
 
--- the steps of a loop over the list
-module _ (os : List Offer) (i n : ℕ) (d : Offer) where
-  pub found_here : i < length os → (get_or os i d).number.0 ≡ n → Some i ≡ place_from i (drop i os) n
-  found_here w e = simp (drop_more os i d w, eq-eqb _ _ e)
+module _ (n : ℕ) where
+  first : (os : List Offer) → position_or_len (numbered n) os < length os → Placed n os (position_or_len (numbered n) os)
+  first [] h = absurd (omega arith)
+  first (o ∷ os) h = go (numbered n o) refl (first os)
+    where
+      go : (b : Bool) → numbered n o ≡ b → (position_or_len (numbered n) os < length os → Placed n os (position_or_len (numbered n) os)) → Placed n (o ∷ os) (position_or_len (numbered n) (o ∷ os))
+      go true t r = simp t (here t)
+      go false t r =
+          let z = simp t at h in
+          let one : suc (position_or_len (numbered n) os) ≡ 1 + position_or_len (numbered n) os = omega arith in
+          simp t (subst (Placed n (o ∷ os)) one (there t (r (omega (arith, z)))))
 
-  pub found_later : i < length os → ((get_or os i d).number.0 ≡ n → ⊥) → place_from (i + 1) (drop (i + 1) os) n ≡ place_from i (drop i os) n
-  found_later w e = simp (drop_more os i d w, ne_eqb _ _ e)
+  none : (os : List Offer) → length os ≤ position_or_len (numbered n) os → has os n ≡ false
+  none [] h = refl
+  none (o ∷ os) h = go (numbered n o) refl (none os)
+    where
+      go : (b : Bool) → numbered n o ≡ b → (length os ≤ position_or_len (numbered n) os → has os n ≡ false) → has (o ∷ os) n ≡ false
+      go true t r = let z = simp t at h in absurd (omega (arith, z))
+      go false t r = let z = simp t at h in simp t (r (omega (arith, z)))
 
-  pub found_none : length os ≤ i → None ≡ place_from i (drop i os) n
-  found_none w = simp (drop_all i os w)
+  pub placed : (os : List Offer) (i : ℕ) → Some i ≡ position (numbered n) os → Placed n os i
+  placed os i e = let p = some_of _ i _ e in subst (Placed n os) p.1 (first os (ltb-true _ _ p.0))
 
-pub placed : (os : List Offer) (n j : ℕ) → Some j ≡ place_from 0 os n → Placed n os j
-placed os n j e = let r = placed_from 0 os n j (sym e) in let z : r.0 ≡ j = omega (arith, r.1) in subst (Placed n os) z r.2
+  -- the test of the search is whether the list has the number
+  found : (os : List Offer) → ltb (position_or_len (numbered n) os) (length os) ≡ has os n
+  found os =
+      ⊎_elim
+      (λ t. t ∙ sym (has_it (first os (ltb-true _ _ t))))
+      (λ t. t ∙ sym (none os (ltb-false _ _ t)))
+      (cases_Bool (ltb (position_or_len (numbered n) os) (length os)))
 
-pub unplaced : (os : List Offer) (n : ℕ) → None ≡ place_from 0 os n → has os n ≡ false
-unplaced os n e = none_from 0 os n (sym e)
+  pub some_has : (os : List Offer) → is_some (position (numbered n) os) ≡ has os n
+  some_has os = is_some_of _ (position_or_len (numbered n) os) ∙ found os
 
-pub at_within : (os : List Offer) (k : ℕ) (d : Offer) → k < length os → Some (get_or os k d) ≡ at_place os k
-at_within [] k d w = absurd (omega arith)
-at_within (o ∷ os) zero d w = refl
-at_within (o ∷ os) (suc k) d w = at_within os k d (omega arith)
+  pub unplaced : (os : List Offer) → None ≡ position (numbered n) os → has os n ≡ false
+  unplaced os e = sym (some_has os) ∙ ap is_some (sym e)
 
-pub at_past : (os : List Offer) (k : ℕ) → length os ≤ k → None ≡ at_place os k
-at_past [] k w = refl
-at_past (o ∷ os) zero w = absurd (omega arith)
-at_past (o ∷ os) (suc k) w = at_past os k (omega arith)
+-- a list, written over with the same list where one place is set
+pub refill_set : (os : List Offer) (i : ℕ) (o : Offer) → refill (length os) os (set os i o) ≡ set os i o
+refill_set os i o = take_at (set os i o) _ (length os) (length-set os i o)
 
-pub some_has : (k : ℕ) (os : List Offer) (n : ℕ) → is_some (place_from k os n) ≡ has os n
-some_has k [] n = refl
-some_has k (o ∷ os) n = go (numbered n o) refl (some_has (k + 1) os n)
-  where
-    go : (b : Bool) → numbered n o ≡ b → is_some (place_from (k + 1) os n) ≡ has os n → is_some (place_from k (o ∷ os) n) ≡ has (o ∷ os) n
-    go true t r = simp t
-    go false t r = simp t r
+-- what a read past the end would give
+abbrev pub nothing : Offer
+nothing = record { number = record { 0 = 0 }; firm = record { 0 = 0 }; price = record { 0 = 0 }; left = record { 0 = 0 } }
+
+-- the offer of a number, found at a place of a list
+module _ (os : List Offer) (n i : ℕ) (f : Some i ≡ position (numbered n) os) where
+  p : Placed n os i
+  p = placed n os i f
+
+  pub has_at : has os n ≡ true
+  has_at = has_it p
+
+  pub without_at : remove os i ≡ without os n
+  without_at = sym (without_it p)
+
+  pub left_at : left_of os n ≡ (get_or os i nothing).left.0
+  left_at = left_there p nothing
+
+  pub taken_at : (a : ℕ) → (get_or os i nothing).left.0 ≡ a → remove os i ≡ taken os n a
+  taken_at a e = sym (taken_all p a (left_at ∙ e))
+
+  pub lowered_at : (a : ℕ) → a < (get_or os i nothing).left.0 → taken os n a ≡ set os i (less (get_or os i nothing) a)
+  lowered_at a w = taken_part p a nothing (λ e. omega (arith, left_at, e, w))

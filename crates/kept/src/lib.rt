@@ -2,20 +2,18 @@
 #![tactic(auto)]
 
 ghost use Rattle.std.specs.Prelude.{◌≡◌, true};
-ghost use Rattle.book.specs.Meaning.{meaning_of};
 ghost use Rattle.book.specs.Laws.{sound};
+ghost use Rattle.book.specs.Sides.{sides_mean};
 ghost use Rattle.kept.specs.Tables.{stored};
 
+use book::Sides;
 use table::Table;
-use units::Lot;
 
 mod calls;
 mod table;
 
 #[derive(Drop)]
 pub struct KeptBook {
-    lot: Lot,
-    buys: Table,
-    sells: Table,
-    ghost ok: { sound 128 (meaning_of (stored buys) (stored sells) lot.0) ≡ true },
+    sides: Sides<Table>,
+    ghost ok: { sound 128 (sides_mean stored sides) ≡ true },
 }

@@ -9,6 +9,7 @@ use Rattle.units.specs.declared.side.Side.{Side}
 use Rattle.units.specs.declared.side.Side.TheVariants.{Buy, Sell}
 use Rattle.book.specs.declared.Offer.{Offer}
 use Rattle.book.specs.declared.MakeError.TheVariants.{Price, Quantity, Full}
+use Rattle.book.specs.declared.sides.Sides.{Sides}
 use Rattle.ladder.specs.declared.rungs.Rungs.{Rungs}
 use Rattle.book.specs.Meaning.{has}
 use Rattle.book.specs.Laws.{all_in_range, distinct, sound}
@@ -85,10 +86,6 @@ module _ (s : Side) (f st q : ℕ) where
   raised_below a zero m w = refl
   raised_below a (suc n) m w = or_from _ _ (ne_eqb (first_number s + a) m (λ e. omega arith)) (raised_below (a + 1) n m (omega arith))
 
-  raised_above : (a n m : ℕ) → first_number s + a + n ≤ m → has (map (λ j. rung s f st j q) (range_with_len a n)) m ≡ false
-  raised_above a zero m w = refl
-  raised_above a (suc n) m w = or_from _ _ (ne_eqb (first_number s + a) m (λ e. omega arith)) (raised_above (a + 1) n m (omega arith))
-
   raised_apart : (a n : ℕ) (os : List Offer) → ((m : ℕ) → m < first_number s + a + n → has os m ≡ false) → distinct os ≡ true → distinct (map (λ j. rung s f st j q) (range_with_len a n) ++ os) ≡ true
   raised_apart a zero os h d = d
   raised_apart a (suc n) os h d =
@@ -138,14 +135,14 @@ module _ (s : Side) (lot : ℕ) (r : Rungs) (few : r.count ≤ 64) (quantity : q
       (or_cases (eqb r.count 0) (is_quantity lot r.quantity.0) quantity)
 
 -- what a ladder that is not refused tells
-pub record Fit (lot : ℕ) (buys sells : Rungs) : Type 0 where
-  pub lot_fits : is_lot lot ≡ true
-  pub buy_few : buys.count ≤ 64
-  pub sell_few : sells.count ≤ 64
-  pub buy_prices : prices_in_range Buy buys ≡ true
-  pub sell_prices : prices_in_range Sell sells ≡ true
-  pub buy_quantity : quantity_in_range lot buys ≡ true
-  pub sell_quantity : quantity_in_range lot sells ≡ true
+pub record Fit (plan : Sides Rungs) : Type 0 where
+  pub lot_fits : is_lot plan.lot.0 ≡ true
+  pub buy_few : plan.buys.count ≤ 64
+  pub sell_few : plan.sells.count ≤ 64
+  pub buy_prices : prices_in_range Buy plan.buys ≡ true
+  pub sell_prices : prices_in_range Sell plan.sells ≡ true
+  pub buy_quantity : quantity_in_range plan.lot.0 plan.buys ≡ true
+  pub sell_quantity : quantity_in_range plan.lot.0 plan.sells ≡ true
 
 passed : (a b c : Bool) → cond a (cond b (cond c None (Some Full)) (Some Quantity)) (Some Price) ≡ None → (a ≡ true) × (b ≡ true) × (c ≡ true)
 passed true true true e = (refl, refl, refl)
@@ -153,8 +150,11 @@ passed true true false e = let z : ◌≡◌ {A = ℕ} 0 1 = cc in absurd (omega
 passed true false c e = let z : ◌≡◌ {A = ℕ} 0 1 = cc in absurd (omega arith)
 passed false b c e = let z : ◌≡◌ {A = ℕ} 0 1 = cc in absurd (omega arith)
 
-pub fit : (lot : ℕ) (buys sells : Rungs) → ladder_refused lot buys sells ≡ None → Fit lot buys sells
-fit lot buys sells e =
+pub fit : (plan : Sides Rungs) → ladder_refused plan ≡ None → Fit plan
+fit plan e =
+    let lot = plan.lot.0 in
+    let buys = plan.buys in
+    let sells = plan.sells in
     let a = prices_in_range Buy buys in
     let b = prices_in_range Sell sells in
     let c = quantity_in_range lot buys in
@@ -171,13 +171,16 @@ fit lot buys sells e =
 few_rungs : (s : Side) (r : Rungs) → r.count ≤ 64 → length (rungs_of s r) ≤ 64
 few_rungs s r w = let l = length-map-range_with_len (λ k. rung s r.first.0 r.step.0 k r.quantity.0) 0 r.count in omega arith
 
-pub sound_raised : (lot : ℕ) (buys sells : Rungs) → ladder_refused lot buys sells ≡ None → sound 64 (ladder_of lot buys sells) ≡ true
-sound_raised lot buys sells e =
-    let p = fit lot buys sells e in
+pub sound_raised : (plan : Sides Rungs) → ladder_refused plan ≡ None → sound 64 (ladder_of plan) ≡ true
+sound_raised plan e =
+    let lot = plan.lot.0 in
+    let buys = plan.buys in
+    let sells = plan.sells in
+    let p = fit plan e in
     let w = p.buy_few in
     let own : distinct (rungs_of Sell sells) ≡ true =
     ap distinct (sym (append-nil (rungs_of Sell sells))) ∙ raised_apart Sell sells.first.0 sells.step.0 sells.quantity.0 0 sells.count [] (λ m v. refl) refl in
-    sound_from 64 (ladder_of lot buys sells) (record {
+    sound_from 64 (ladder_of plan) (record {
       lot = p.lot_fits;
       few = elim [ Buy ↦ few_rungs Buy buys p.buy_few | Sell ↦ few_rungs Sell sells p.sell_few ];
       ranged = elim [ Buy ↦ side_ranged Buy lot buys p.buy_few p.buy_quantity p.buy_prices | Sell ↦ side_ranged Sell lot sells p.sell_few p.sell_quantity p.sell_prices ];

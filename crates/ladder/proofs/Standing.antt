@@ -1,12 +1,15 @@
 -- The offers of a ladder's side: which numbers it has, what is left of each, and what a lowered rung does.
-use Rattle.std.proofs.Common.{◌≡◌, ℕ, zero, suc, ◌+◌, ◌-◌, ◌<◌, ◌≤◌, Bool, true, false, cond, eqb, List, [], ◌∷◌, length, get_or, drop, set, Some, None, sym, refl, ap, ◌∙◌, subst, arith}
-use Rattle.std.proofs.lemmas.List.{drop_more, drop_all}
+use Rattle.std.proofs.Common.{◌≡◌, ℕ, zero, suc, ◌+◌, ◌-◌, ◌<◌, ◌≤◌, Bool, true, false, cond, not, eqb, List, [], ◌∷◌, length, map, filter, count_by, slice_get, Option, get_or, set, Some, None, sym, refl, ap, ◌∙◌, subst, arith}
+use Rattle.std.specs.List.{enumerate_from}
+use Rattle.std.specs.Option.{option_map}
+use Rattle.std.proofs.lemmas.Option.{slice_get-map}
+use Rattle.std.proofs.lemmas.List.Sums.{length-filter}
 use Rattle.std.proofs.lemmas.Bool.{eq-eqb, ne_eqb, eqb-true, eqb-false, cond_both, cond-true, cond-false, or_from, or_left, or_right, and_parts}
 use Rattle.units.specs.declared.side.Side.{Side}
 use Rattle.book.specs.declared.Offer.{Offer}
-use Rattle.book.specs.Meaning.{has, left_of, taken, numbered, at_place, less, in_range}
+use Rattle.book.specs.Meaning.{has, left_of, taken, numbered, less, in_range}
 use Rattle.book.specs.Laws.{all_in_range}
-use Rattle.ladder.specs.Rungs.{first_number, rung_price, rung, standing}
+use Rattle.ladder.specs.Rungs.{first_number, rung_price, rung, stands, standing}
 use Rattle.book.proofs.Ranges.{range_parts, within_parts}
 
 module _ (s : Side) (f st : ℕ) where
@@ -84,15 +87,35 @@ module _ (s : Side) (f st : ℕ) where
       let ih : has (standing s f st (k + 1) ls) (first_number s + (k + suc i)) ≡ true = ap (has (standing s f st (k + 1) ls)) (sym e) ∙ rung_has (k + 1) ls i p in
       cond_both (eqb l 0) _ _ (λ z. has z (first_number s + (k + suc i)) ≡ true) (λ _. ih) (λ _. or_right _ _ ih)
 
-  -- the loop that looks for the offer at a place
-  pub look_dead : (ls : List ℕ) (i : ℕ) → i < length ls → get_or ls i 0 ≡ 0 → standing s f st (i + 1) (drop (i + 1) ls) ≡ standing s f st i (drop i ls)
-  look_dead ls i w e = sym (ap (standing s f st i) (drop_more ls i 0 w) ∙ cond-true _ _ _ (eq-eqb (get_or ls i 0) 0 e))
+  -- the standing rungs, as the others are left out
+  pub standing_is : (k : ℕ) (ls : List ℕ) → standing s f st k ls ≡ map (λ r. rung s f st r.0 r.1) (filter stands (enumerate_from k ls))
+  standing_is k [] = refl
+  standing_is k (l ∷ ls) = go (eqb l 0) refl (standing_is (k + 1) ls)
+    where
+      go : (b : Bool) → eqb l 0 ≡ b → standing s f st (k + 1) ls ≡ map (λ r. rung s f st r.0 r.1) (filter stands (enumerate_from (k + 1) ls)) → standing s f st k (l ∷ ls) ≡ map (λ r. rung s f st r.0 r.1) (filter stands (enumerate_from k (l ∷ ls)))
+      go true t e = simp t e
+      go false t e = simp t (ap (λ (os : List Offer). rung s f st k l ∷ os) e)
 
-  pub look_live : (ls : List ℕ) (i : ℕ) → i < length ls → (get_or ls i 0 ≡ 0 → ⊥) → rung s f st i (get_or ls i 0) ∷ standing s f st (i + 1) (drop (i + 1) ls) ≡ standing s f st i (drop i ls)
-  look_live ls i w e = sym (ap (standing s f st i) (drop_more ls i 0 w) ∙ cond-false _ _ _ (ne_eqb (get_or ls i 0) 0 e))
+  standing_length : (k : ℕ) (ls : List ℕ) → length (standing s f st k ls) ≡ length (filter (λ l. not (eqb l 0)) ls)
+  standing_length k [] = refl
+  standing_length k (l ∷ ls) = go (eqb l 0) refl (standing_length (k + 1) ls)
+    where
+      go : (b : Bool) → eqb l 0 ≡ b → length (standing s f st (k + 1) ls) ≡ length (filter (λ l. not (eqb l 0)) ls) → length (standing s f st k (l ∷ ls)) ≡ length (filter (λ l. not (eqb l 0)) (l ∷ ls))
+      go true t e = simp t e
+      go false t e = simp t (ap suc e)
 
-  pub look_end : (ls : List ℕ) (i k : ℕ) → length ls ≤ i → None ≡ at_place (standing s f st i (drop i ls)) k
-  look_end ls i k l = sym (ap (λ (xs : List ℕ). at_place (standing s f st i xs) k) (drop_all i ls l))
+  pub standing_count : (ls : List ℕ) → count_by (λ l. not (eqb l 0)) ls ≡ length (standing s f st 0 ls)
+  standing_count ls = sym (standing_length 0 ls ∙ length-filter (λ l. not (eqb l 0)) ls)
+
+  standing_get : (ls : List ℕ) (place : ℕ) → option_map (λ r. rung s f st r.0 r.1) (slice_get (filter stands (enumerate_from 0 ls)) place) ≡ slice_get (standing s f st 0 ls) place
+  standing_get ls place =
+      sym (slice_get-map (λ r. rung s f st r.0 r.1) (filter stands (enumerate_from 0 ls)) place) ∙ ap (λ (os : List Offer). slice_get os place) (sym (standing_is 0 ls))
+
+  pub standing_none : (ls : List ℕ) (place : ℕ) → None ≡ slice_get (filter stands (enumerate_from 0 ls)) place → None ≡ slice_get (standing s f st 0 ls) place
+  standing_none ls place e = ap (option_map (λ (r : ℕ × ℕ). rung s f st r.0 r.1)) e ∙ standing_get ls place
+
+  pub standing_some : (ls : List ℕ) (place k l : ℕ) → Some (k, l) ≡ slice_get (filter stands (enumerate_from 0 ls)) place → Some (rung s f st k l) ≡ slice_get (standing s f st 0 ls) place
+  standing_some ls place k l e = ap (option_map (λ (r : ℕ × ℕ). rung s f st r.0 r.1)) e ∙ standing_get ls place
 
   -- a price that fits, of a rung in range
   price_small : (lot k l : ℕ) → in_range lot (rung s f st k l) ≡ true → rung_price s f st k ≤ 1000000000
@@ -116,30 +139,48 @@ prices s f st lot k (l ∷ ls) h (suc i) p =
 pub prices_fit : (s : Side) (f st lot : ℕ) (ls : List ℕ) → all_in_range lot (standing s f st 0 ls) ≡ true → (i : ℕ) → 0 < get_or ls i 0 → rung_price s f st i ≤ 1000000000
 prices_fit s f st lot ls h i p = let e : 0 + i ≡ i = omega arith in subst (λ (j : ℕ). rung_price s f st j ≤ 1000000000) e (prices s f st lot 0 ls h i p)
 
-at_later : (o : Offer) (os : List Offer) (k : ℕ) → (k ≡ 0 → ⊥) → at_place os (k - 1) ≡ at_place (o ∷ os) k
-at_later o os zero h = absurd (h refl)
-at_later o os (suc k) h = let e : suc k - 1 ≡ k = omega arith in ap (at_place os) e
+-- where a standing rung stands
+record Stands (a : ℕ) (ls : List ℕ) (k l : ℕ) : Type 0 where
+  at : ℕ
+  is : k ≡ a + at
+  few : at < length ls
+  left : get_or ls at 0 ≡ l
+  some : 0 < l
 
-module _ (s : Side) (f st : ℕ) (ls : List ℕ) (i skip : ℕ) (w : i < length ls) where
-  pub look_found : (get_or ls i 0 ≡ 0 → ⊥) → skip ≡ 0 → Some (rung s f st i (get_or ls i 0)) ≡ at_place (standing s f st i (drop i ls)) skip
-  look_found h e = ap (at_place (rung s f st i (get_or ls i 0) ∷ standing s f st (i + 1) (drop (i + 1) ls))) (sym e) ∙ ap (λ (os : List Offer). at_place os skip) (look_live s f st ls i w h)
+later : (a x : ℕ) (ls : List ℕ) (k l : ℕ) → Stands (a + 1) ls k l → Stands a (x ∷ ls) k l
+later a x ls k l p = record { at = suc p.at; is = omega (arith, p.is); few = omega (arith, p.few); left = p.left; some = p.some }
 
-  pub look_past : (get_or ls i 0 ≡ 0 → ⊥) → (skip ≡ 0 → ⊥) → at_place (standing s f st (i + 1) (drop (i + 1) ls)) (skip - 1) ≡ at_place (standing s f st i (drop i ls)) skip
-  look_past h e = at_later (rung s f st i (get_or ls i 0)) (standing s f st (i + 1) (drop (i + 1) ls)) skip e ∙ ap (λ (os : List Offer). at_place os skip) (look_live s f st ls i w h)
+abbrev place_in : Option (ℕ × ℕ) → ℕ
+place_in None = 0
+place_in (Some r) = r.0
 
-  pub look_over : get_or ls i 0 ≡ 0 → at_place (standing s f st (i + 1) (drop (i + 1) ls)) skip ≡ at_place (standing s f st i (drop i ls)) skip
-  look_over h = ap (λ (os : List Offer). at_place os skip) (look_dead s f st ls i w h)
+abbrev left_in : Option (ℕ × ℕ) → ℕ
+left_in None = 0
+left_in (Some r) = r.1
 
--- the loop that counts
-module _ (s : Side) (f st : ℕ) (ls : List ℕ) (i n : ℕ) where
-  pub count_more : i < length ls → (get_or ls i 0 ≡ 0 → ⊥) → n + length (standing s f st i (drop i ls)) ≡ length (standing s f st 0 ls) → (n + 1) + length (standing s f st (i + 1) (drop (i + 1) ls)) ≡ length (standing s f st 0 ls)
-  count_more w e h = let q = ap (λ (os : List Offer). length os) (look_live s f st ls i w e) in omega arith
+stands_where : (a : ℕ) (ls : List ℕ) (place k l : ℕ) → Some (k, l) ≡ slice_get (filter stands (enumerate_from a ls)) place → Stands a ls k l
+stands_where a [] place k l e = let z : ◌≡◌ {A = ℕ} 0 1 = cc in absurd (omega arith)
+stands_where a (x ∷ ls) place k l e = go (eqb x 0) refl place e (λ p. stands_where (a + 1) ls p k l)
+  where
+    go : (b : Bool) → eqb x 0 ≡ b → (place : ℕ) → Some (k, l) ≡ slice_get (filter stands (enumerate_from a (x ∷ ls))) place → ((p : ℕ) → Some (k, l) ≡ slice_get (filter stands (enumerate_from (a + 1) ls)) p → Stands (a + 1) ls k l) → Stands a (x ∷ ls) k l
+    go true t place e r = later a x ls k l (r place (simp t at e))
+    go false t zero e r =
+        let q = simp t at e in
+        let p : k ≡ a = ap place_in q in
+        let w : x ≡ l = ap left_in (sym q) in
+        let z = eqb-false x 0 t in
+        record { at = 0; is = omega (arith, p); few = omega arith; left = w; some = omega (arith, w, z) }
+    go false t (suc place) e r = later a x ls k l (r place (simp t at e))
 
-  pub count_same : i < length ls → get_or ls i 0 ≡ 0 → n + length (standing s f st i (drop i ls)) ≡ length (standing s f st 0 ls) → n + length (standing s f st (i + 1) (drop (i + 1) ls)) ≡ length (standing s f st 0 ls)
-  count_same w e h = let q = ap (λ (os : List Offer). length os) (look_dead s f st ls i w e) in omega arith
+pub stands_few : (ls : List ℕ) (place k l : ℕ) → Some (k, l) ≡ slice_get (filter stands (enumerate_from 0 ls)) place → k < length ls
+stands_few ls place k l e = let p = stands_where 0 ls place k l e in omega (arith, p.is, p.few)
 
-  pub count_end : length ls ≤ i → n + length (standing s f st i (drop i ls)) ≡ length (standing s f st 0 ls) → n ≡ length (standing s f st 0 ls)
-  count_end w h = let q : length (standing s f st i (drop i ls)) ≡ 0 = ap (λ (xs : List ℕ). length (standing s f st i xs)) (drop_all i ls w) in omega arith
+pub stands_some : (ls : List ℕ) (place k l : ℕ) → Some (k, l) ≡ slice_get (filter stands (enumerate_from 0 ls)) place → 0 < get_or ls k 0
+stands_some ls place k l e =
+    let p = stands_where 0 ls place k l e in
+    let q : p.at ≡ k = omega (arith, p.is) in
+    let w : get_or ls k 0 ≡ l = ap (λ (i : ℕ). get_or ls i 0) (sym q) ∙ p.left in
+    omega (arith, w, p.some)
 
 -- the rung of a number that stands
 module _ (s : Side) (f st : ℕ) (ls : List ℕ) (k n : ℕ) (is : first_number s + k ≡ n) where
@@ -155,7 +196,5 @@ module _ (s : Side) (f st : ℕ) (ls : List ℕ) (k n : ℕ) (is : first_number 
   pub gone_is : get_or ls k 0 ≡ 0 → has (standing s f st 0 ls) n ≡ false
   gone_is p = ap (has (standing s f st 0 ls)) (sym at_n) ∙ rung_gone s f st 0 ls k p
 
-  pub lowered : (l : ℕ) → l < get_or ls k 0 → standing s f st 0 (set ls k l) ≡ taken (standing s f st 0 ls) n (get_or ls k 0 - l)
-  lowered l p =
-      let e : l ≡ get_or ls k 0 - (get_or ls k 0 - l) = omega arith in
-      ap (λ (x : ℕ). standing s f st 0 (set ls k x)) e ∙ rung_taken s f st 0 ls k (get_or ls k 0 - l) (omega arith) (omega arith) ∙ ap (λ (m : ℕ). taken (standing s f st 0 ls) m (get_or ls k 0 - l)) at_n
+  pub lowered : (a : ℕ) → 0 < get_or ls k 0 → a ≤ get_or ls k 0 → standing s f st 0 (set ls k (get_or ls k 0 - a)) ≡ taken (standing s f st 0 ls) n a
+  lowered a p q = rung_taken s f st 0 ls k a p q ∙ ap (λ (m : ℕ). taken (standing s f st 0 ls) m a) at_n

@@ -1,5 +1,5 @@
 -- The rungs of one side of a ladder, by formula, and which ladders can be made.
-use Rattle.std.specs.Prelude.{◌≡◌, ℕ, zero, suc, ◌+◌, ◌-◌, ◌*◌, ◌<◌, Bool, true, cond, ◌&&◌, ◌||◌, List, [], ◌∷◌, map, Some, None, Option, ◌==◌, nat_le}
+use Rattle.std.specs.Prelude.{◌≡◌, ℕ, zero, suc, ◌+◌, ◌-◌, ◌*◌, ◌<◌, Bool, true, cond, not, ◌&&◌, ◌||◌, List, [], ◌∷◌, map, Some, None, Option, ◌==◌, nat_le}
 use Rattle.std.specs.List.{range_with_len}
 use Rattle.units.specs.Ranges.{is_price, is_quantity, is_lot}
 use Rattle.units.specs.declared.side.Side.{Side}
@@ -7,6 +7,7 @@ use Rattle.units.specs.declared.side.Side.TheVariants.{Buy, Sell}
 use Rattle.book.specs.declared.Offer.{Offer}
 use Rattle.book.specs.declared.MakeError.{MakeError}
 use Rattle.book.specs.declared.MakeError.TheVariants.{Price, Quantity, Full}
+use Rattle.book.specs.declared.sides.Sides.{Sides}
 use Rattle.ladder.specs.declared.rungs.Rungs.{Rungs}
 use Rattle.book.specs.Meaning.{Meaning, meaning_of}
 
@@ -24,6 +25,10 @@ rung_price Sell first step k = first + k * step
 abbrev pub rung : Side → ℕ → ℕ → ℕ → ℕ → Offer
 rung s first step k left =
     record { number = record { 0 = first_number s + k }; firm = record { 0 = 0 }; price = record { 0 = rung_price s first step k }; left = record { 0 = left } }
+
+-- something is left of a rung, told by its place and what is left of it
+abbrev pub stands : ℕ × ℕ → Bool
+stands r = not (r.1 == 0)
 
 -- what each rung from k on has left, in order, as offers: an emptied rung is none
 abbrev pub standing : Side → ℕ → ℕ → ℕ → List ℕ → List Offer
@@ -50,16 +55,17 @@ abbrev pub quantity_in_range : ℕ → Rungs → Bool
 quantity_in_range lot r = r.count == 0 || is_quantity lot r.quantity.0
 
 -- why no ladder is made, the first that holds: prices, then lot and quantities, then how many rungs
-abbrev pub ladder_refused : ℕ → Rungs → Rungs → Option MakeError
-ladder_refused lot buys sells =
-    cond (prices_in_range Buy buys && prices_in_range Sell sells)
-    (cond (is_lot lot && (quantity_in_range lot buys && quantity_in_range lot sells))
-    (cond (nat_le buys.count 64 && nat_le sells.count 64) None (Some Full))
+abbrev pub ladder_refused : Sides Rungs → Option MakeError
+ladder_refused plan =
+    cond (prices_in_range Buy plan.buys && prices_in_range Sell plan.sells)
+    (cond (is_lot plan.lot.0 && (quantity_in_range plan.lot.0 plan.buys && quantity_in_range plan.lot.0 plan.sells))
+    (cond (nat_le plan.buys.count 64 && nat_le plan.sells.count 64) None (Some Full))
     (Some Quantity))
     (Some Price)
 
-abbrev pub ladder_of : ℕ → Rungs → Rungs → Meaning
-ladder_of lot buys sells = meaning_of (rungs_of Buy buys) (rungs_of Sell sells) lot
+-- the ladder of a plan that is not refused
+abbrev pub ladder_of : Sides Rungs → Meaning
+ladder_of plan = meaning_of (rungs_of Buy plan.buys) (rungs_of Sell plan.sells) plan.lot.0
 
 -- every rung has its price in range exactly when the first and the last have
 abbrev pub EndsDecide : Type 0

@@ -1,7 +1,7 @@
 // Making a ladder, and its answers.
 ghost use Rattle.std.specs.Prelude.{◌≡◌, false, ◌||◌, is_ok, None};
 ghost use Rattle.std.specs.Option.{option_map};
-ghost use Rattle.book.specs.Meaning.{side_of, has, left_of, take_result, after_take};
+ghost use Rattle.book.specs.Meaning.{side_of, has, left_of};
 ghost use Rattle.book.specs.Making.{made_unless, filled_unless, made_as, result_means};
 ghost use Rattle.ladder.specs.Rungs.{ladder_refused, ladder_of, EndsDecide};
 ghost use Rattle.ladder.specs.Ladders.{ladder_means};
@@ -12,105 +12,87 @@ ghost use Rattle.std.proofs.Common.{rules};
 use crate::Ladder;
 use crate::rail::Rail;
 use crate::rungs::{MOST_RUNGS, Rungs};
-use book::{Book, MakeError, Offer, Refused};
-use units::{Lot, NoOrders, Number, Quantity, Side};
+use book::{Book, MakeError, Offer, OneSide, Refused, Sides, fill};
+use units::{Lot, NoOrders, Number, Quantity, Ranged, Side};
 
 impl Ladder {
     // Why no such ladder is made, if so: prices first, then lot and quantities, then how many rungs.
-    fn fault(lot: Lot, buys: Rungs, sells: Rungs) -> Option<MakeError>
-        ensures value { result ≡ ladder_refused lot.0 buys sells }
+    // The law on ends stands in each contract up to the public ones, since it counts where a caller reads it.
+    fn check(plan: &Sides<Rungs>) -> Result<(), MakeError>
+        ensures value { result ≡ made_unless (ladder_refused plan.now) }
         ensures ends { EndsDecide }
     {
-        if !(buys.prices_in_range(Side::Buy) && sells.prices_in_range(Side::Sell)) {
-            return Some(MakeError::Price);
+        if !(plan.buys.prices_in_range(Side::Buy) && plan.sells.prices_in_range(Side::Sell)) {
+            return Err(MakeError::Price);
         }
-        if !(lot.in_range() && (buys.quantity_in_range(lot) && sells.quantity_in_range(lot))) {
-            return Some(MakeError::Quantity);
+        if !(plan.lot.in_range()
+            && plan.buys.quantity_in_range(plan.lot)
+            && plan.sells.quantity_in_range(plan.lot))
+        {
+            return Err(MakeError::Quantity);
         }
-        if !(buys.are_few() && sells.are_few()) {
-            return Some(MakeError::Full);
+        if !(plan.buys.are_few() && plan.sells.are_few()) {
+            return Err(MakeError::Full);
         }
-        None
-    }
-
-    fn raise(lot: Lot, buys: Rungs, sells: Rungs) -> Ladder
-        requires { ladder_refused lot.0 buys sells ≡ None }
-        ensures { ladder_means result ≡ ladder_of lot.0 buys sells }
-    {
-        Ladder {
-            lot,
-            buys: Rail::raise(Side::Buy, lot, buys),
-            sells: Rail::raise(Side::Sell, lot, sells),
-        }
-    }
-
-    // A ladder; refused where a price, the lot, a quantity or a count of rungs is out of range.
-    pub fn new(lot: Lot, buys: Rungs, sells: Rungs) -> Result<Ladder, MakeError>
-        ensures value { result_means ladder_means result ≡ made_as (ladder_refused lot.0 buys sells) (ladder_of lot.0 buys sells) }
-        ensures ends { EndsDecide }
-    {
-        if let Some(fault) = Ladder::fault(lot, buys, sells) {
-            return Err(fault);
-        }
-        Ok(Ladder::raise(lot, buys, sells))
-    }
-
-    // The same in the caller's place, which a refusal leaves as it was.
-    pub fn make(
-        place: &mut Option<Ladder>,
-        lot: Lot,
-        buys: Rungs,
-        sells: Rungs,
-    ) -> Result<(), MakeError>
-        ensures result { result ≡ made_unless (ladder_refused lot.0 buys sells) }
-        ensures after { option_map ladder_means place.new ≡ filled_unless (ladder_refused lot.0 buys sells) (ladder_of lot.0 buys sells) (option_map ladder_means place.old) }
-        ensures unchanged { is_ok result ≡ false → place.new ≡ place.old }
-        ensures ends { EndsDecide }
-    {
-        if let Some(fault) = Ladder::fault(lot, buys, sells) {
-            return Err(fault);
-        }
-        *place = Some(Ladder::raise(lot, buys, sells));
         Ok(())
     }
 
-    fn take_rung(&mut self, side: Side, number: Number, amount: Quantity) -> Result<(), Refused>
-        ensures result { result ≡ take_result (ladder_means self.old) side number.0 amount.0 }
-        ensures after { ladder_means self.new ≡ after_take (ladder_means self.old) side number.0 amount.0 }
+    fn raise(plan: Sides<Rungs>) -> Ladder
+        requires { ladder_refused plan ≡ None }
+        ensures { ladder_means result ≡ ladder_of plan }
     {
-        let lot = self.lot;
-        match side {
-            Side::Buy => self.buys.take(lot, number, amount),
-            Side::Sell => self.sells.take(lot, number, amount),
+        Ladder {
+            sides: Sides {
+                lot: plan.lot,
+                buys: Rail::raise(Side::Buy, plan.lot, plan.buys),
+                sells: Rail::raise(Side::Sell, plan.lot, plan.sells),
+            },
         }
+    }
+
+    // The ladder of a plan; refused where a price, the lot, a quantity or a count of rungs is out of range.
+    pub fn new(plan: Sides<Rungs>) -> Result<Ladder, MakeError>
+        ensures value { result_means ladder_means result ≡ made_as (ladder_refused plan) (ladder_of plan) }
+        ensures ends { EndsDecide }
+    {
+        Ladder::check(&plan)?;
+        Ok(Ladder::raise(plan))
+    }
+
+    // The same in the caller's place, which a refusal leaves as it was.
+    #[tactic(auto, using(book::proofs::Making::fill_answers, book::proofs::Making::fill_means))]
+    pub fn make(place: &mut Option<Ladder>, plan: Sides<Rungs>) -> Result<(), MakeError>
+        ensures result { result ≡ made_unless (ladder_refused plan) }
+        ensures after { option_map ladder_means place.new ≡ filled_unless (ladder_refused plan) (ladder_of plan) (option_map ladder_means place.old) }
+        ensures unchanged { is_ok result ≡ false → place.new ≡ place.old }
+        ensures ends { EndsDecide }
+    {
+        fill(place, Ladder::new(plan))
     }
 
     // What is left of a number on a side, 0 where the side does not have it.
     pub fn left(&self, side: Side, number: Number) -> Quantity
         ensures { result.0 ≡ left_of (side_of (ladder_means self.now) side) number.0 }
     {
-        match side {
-            Side::Buy => self.buys.left(number),
-            Side::Sell => self.sells.left(number),
-        }
+        self.sides.side(side).left(number)
     }
 
     // Whether a rung of either side has the number.
     pub fn has(&self, number: Number) -> bool
         ensures { result ≡ has (ladder_means self.now).buys number.0 || has (ladder_means self.now).sells number.0 }
     {
-        self.buys.has(number) || self.sells.has(number)
+        self.sides.has(number)
     }
 }
 
 impl Book for Ladder {
     type Orders = NoOrders;
 
-    const MOST: usize = MOST_RUNGS;
-
     ghost means = { ladder_means };
 
-    ghost most = { 64 };
+    ghost MOST = { 64 };
+
+    const MOST: usize = MOST_RUNGS;
 
     ghost few = { Prim.search rules };
 
@@ -118,29 +100,19 @@ impl Book for Ladder {
 
     ghost takes = { takes_in_words };
 
-    fn limit() -> usize {
-        Self::MOST
-    }
-
     fn lot(&self) -> Lot {
-        self.lot
+        self.sides.lot
     }
 
     fn count(&self, side: Side) -> usize {
-        match side {
-            Side::Buy => self.buys.count(),
-            Side::Sell => self.sells.count(),
-        }
+        self.sides.side(side).count()
     }
 
     fn offer(&self, side: Side, place: usize) -> Option<Offer> {
-        match side {
-            Side::Buy => self.buys.offer(place),
-            Side::Sell => self.sells.offer(place),
-        }
+        self.sides.side(side).offer(place)
     }
 
     fn take(&mut self, side: Side, number: Number, amount: Quantity) -> Result<(), Refused> {
-        self.take_rung(side, number, amount)
+        self.sides.take(side, number, amount)
     }
 }

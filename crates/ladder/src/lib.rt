@@ -2,12 +2,12 @@
 #![tactic(auto)]
 
 ghost use Rattle.std.specs.Prelude.{◌≡◌, true};
-ghost use Rattle.book.specs.Meaning.{meaning_of};
 ghost use Rattle.book.specs.Laws.{sound};
+ghost use Rattle.book.specs.Sides.{sides_mean};
 ghost use Rattle.ladder.specs.Rails.{rail_offers};
 
+use book::Sides;
 use rail::Rail;
-use units::Lot;
 
 mod calls;
 mod rail;
@@ -17,8 +17,6 @@ pub use rungs::{Rungs, Step};
 
 #[derive(Drop)]
 pub struct Ladder {
-    lot: Lot,
-    buys: Rail,
-    sells: Rail,
-    ghost ok: { sound 64 (meaning_of (rail_offers buys) (rail_offers sells) lot.0) ≡ true },
+    sides: Sides<Rail>,
+    ghost ok: { sound 64 (sides_mean rail_offers sides) ≡ true },
 }

@@ -3,17 +3,17 @@ ghost use Rattle.std.specs.Prelude.{◌≡◌, ◌-◌, ◌<◌, true, nat_le};
 ghost use Rattle.units.specs.Ranges.{is_price};
 ghost use Rattle.ladder.specs.Rungs.{rung_price, prices_in_range, quantity_in_range, EndsDecide};
 
-use units::{Lot, MOST_PRICE, Price, Quantity, Side};
+use units::{Lot, Price, Quantity, Ranged, Side};
 
 // The most rungs a side.
 pub(crate) const MOST_RUNGS: usize = 64;
 
 // Price units from one rung to the next; 0 puts all rungs at one price.
-#[derive(Clone, Copy)]
+#[derive(Clone, Copy, Debug, PartialEq, Eq)]
 pub struct Step(pub u32);
 
 // So many rungs of one quantity, from the first price on, a step apart.
-#[derive(Clone, Copy)]
+#[derive(Clone, Copy, Debug, PartialEq, Eq)]
 pub struct Rungs {
     pub count: u32,
     pub quantity: Quantity,
@@ -23,6 +23,7 @@ pub struct Rungs {
 
 impl Rungs {
     // Prices run one way from the first rung on, so the first and the last decide.
+    #[tactic(auto, using(crate::proofs::Raising::ends_decide, crate::proofs::Raising::ends_first, crate::proofs::Raising::ends_last))]
     pub(crate) fn prices_in_range(self, side: Side) -> bool
         ensures value { result ≡ prices_in_range side self }
         ensures ends { EndsDecide }
@@ -41,7 +42,7 @@ impl Rungs {
         let away = u64::from(self.count - 1) * u64::from(self.step.0);
         match side {
             Side::Buy => away < u64::from(self.first.0),
-            Side::Sell => away <= u64::from(MOST_PRICE - self.first.0),
+            Side::Sell => away <= u64::from(Price::MOST.0 - self.first.0),
         }
     }
 

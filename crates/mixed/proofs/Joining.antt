@@ -1,15 +1,18 @@
 -- A book of two parts, one behind the other: what each answer on the parts is on the whole.
-use Rattle.std.proofs.Common.{◌≡◌, ℕ, zero, suc, ◌+◌, ◌-◌, ◌<◌, ◌≤◌, Bool, true, false, cond, not, ◌&&◌, ◌||◌, eqb, ltb, leb, List, [], ◌∷◌, ◌++◌, length, sym, refl, ap, ◌∙◌, ⊎_elim, arith}
+use Rattle.std.proofs.Common.{◌≡◌, ℕ, zero, suc, ◌+◌, ◌-◌, ◌<◌, ◌≤◌, Bool, true, false, cond, Result, Ok, is_ok, not, ◌&&◌, ◌||◌, eqb, ltb, leb, List, [], ◌∷◌, ◌++◌, length, slice_get, sym, refl, ap, ◌∙◌, ⊎_elim, arith}
 use Rattle.std.proofs.lemmas.List.{append_assoc, append-nil, length-append}
 use Rattle.std.proofs.lemmas.Bool.{eqb-true, le-ltb, lt-ltb, and_left, and_right, and_parts, or_left, or_right, or_parts, or_cases, cond-true, cond-false, cond_both, not-true, not_from_true, both_ways, cases_Bool}
 use Rattle.units.specs.declared.side.Side.{Side}
 use Rattle.units.specs.declared.side.Side.TheVariants.{Buy, Sell}
 use Rattle.book.specs.declared.Offer.{Offer}
-use Rattle.book.specs.Meaning.{Meaning, meaning_of, side_of, with_side, at_place, numbered, has, left_of, taken, without, lots, list_takes, in_range, can_take, after_take, can_enter, after_enter, after_remove}
+use Rattle.book.specs.Meaning.{Meaning, meaning_of, when, take_result, enter_result, remove_result, side_of, with_side, numbered, has, left_of, taken, without, lots, list_takes, in_range, can_take, after_take, can_enter, after_enter, after_remove}
+use Rattle.book.specs.declared.Refused.{Refused}
 use Rattle.book.specs.Laws.{distinct, sound}
 use Rattle.kept.specs.Kept.{empty_book}
 use Rattle.mixed.specs.Joined.{joined}
-use Rattle.book.proofs.Sound.{side_distinct}
+use Rattle.book.proofs.Answers.{accepts, ok_tells}
+use Rattle.book.proofs.Lefts.{take_whole}
+use Rattle.book.proofs.Sound.{side_distinct, sound_after_take, sound_after_enter, sound_after_remove}
 
 -- Lists
 
@@ -77,15 +80,15 @@ only_front (x ∷ xs) ys n d h = go (numbered n x) refl (only_front xs ys n)
     go true t r = ⊎_elim (λ e. absurd (both_ways _ (here t) (has_front xs ys n e))) (λ e. sym (has_back xs ys n e) ∙ here t) (cases_Bool (has xs n))
     go false t r = r p.1 (simp t at h)
 
-pub place_front : (xs ys : List Offer) (k : ℕ) → k < length xs → at_place xs k ≡ at_place (xs ++ ys) k
+pub place_front : (xs ys : List Offer) (k : ℕ) → k < length xs → slice_get xs k ≡ slice_get (xs ++ ys) k
 place_front [] ys k w = absurd (omega arith)
 place_front (x ∷ xs) ys zero w = refl
 place_front (x ∷ xs) ys (suc k) w = place_front xs ys k (omega arith)
 
-pub place_back : (xs ys : List Offer) (k : ℕ) → length xs ≤ k → at_place ys (k - length xs) ≡ at_place (xs ++ ys) k
-place_back [] ys k w = ap (at_place ys) (omega arith)
+pub place_back : (xs ys : List Offer) (k : ℕ) → length xs ≤ k → slice_get ys (k - length xs) ≡ slice_get (xs ++ ys) k
+place_back [] ys k w = ap (slice_get ys) (omega arith)
 place_back (x ∷ xs) ys zero w = absurd (omega arith)
-place_back (x ∷ xs) ys (suc k) w = let e : suc k - length (x ∷ xs) ≡ k - length xs = omega arith in ap (at_place ys) e ∙ place_back xs ys k (omega arith)
+place_back (x ∷ xs) ys (suc k) w = let e : suc k - length (x ∷ xs) ≡ k - length xs = omega arith in ap (slice_get ys) e ∙ place_back xs ys k (omega arith)
 
 takes_front : (lot : ℕ) (xs ys : List Offer) (n a : ℕ) → has xs n ≡ true → list_takes lot (xs ++ ys) n a ≡ list_takes lot xs n a
 takes_front lot xs ys n a h = simp (h, has_front xs ys n h, left_front xs ys n h)
@@ -100,11 +103,11 @@ module _ (m n : Meaning) where
   joined_count Buy = length-append m.buys n.buys
   joined_count Sell = length-append m.sells n.sells
 
-  pub joined_front : (s : Side) (k : ℕ) → k < length (side_of m s) → at_place (side_of m s) k ≡ at_place (side_of (joined m n) s) k
+  pub joined_front : (s : Side) (k : ℕ) → k < length (side_of m s) → slice_get (side_of m s) k ≡ slice_get (side_of (joined m n) s) k
   joined_front Buy k w = place_front m.buys n.buys k w
   joined_front Sell k w = place_front m.sells n.sells k w
 
-  pub joined_back : (s : Side) (k : ℕ) → length (side_of m s) ≤ k → at_place (side_of n s) (k - length (side_of m s)) ≡ at_place (side_of (joined m n) s) k
+  pub joined_back : (s : Side) (k : ℕ) → length (side_of m s) ≤ k → slice_get (side_of n s) (k - length (side_of m s)) ≡ slice_get (side_of (joined m n) s) k
   joined_back Buy k w = place_back m.buys n.buys k w
   joined_back Sell k w = place_back m.sells n.sells k w
 
@@ -292,3 +295,56 @@ module _ (m n : Meaning) (same : m.lot ≡ n.lot) (h : sound 128 (joined m n) �
             ∙ sym (whole_enter s o))
             (cases_Bool (can_enter 128 n s o)),
       )
+
+-- a book of parts m and n that is the whole w: what the type of a mixed book asks, and what a call promises of it
+pub record Is (w m n : Meaning) : Type 0 where
+  pub lots : m.lot ≡ n.lot
+  pub ok : sound 128 (joined m n) ≡ true
+  pub whole : joined m n ≡ w
+
+-- The whole after a call: what the first part answers decides; r and q are what the calls on the parts answered, m' and n' what the parts mean after them.
+module _ (m n : Meaning) (same : m.lot ≡ n.lot) (h : sound 128 (joined m n) ≡ true) (s : Side) (r : Result (Unit {0}) Refused) (m' : Meaning) where
+  pub took_front : (k a : ℕ) → r ≡ take_result m s k a → m' ≡ after_take m s k a → true ≡ is_ok r → Is (after_take (joined m n) s k a) m' n × (Ok tt ≡ take_result (joined m n) s k a)
+  took_front k a e g t =
+      let w = take_front m n same h s k a m' (ok_tells (can_take m s k a) true r e t) g in (
+        record { lots = ap (λ (z : Meaning). z.lot) g ∙ lot_after_take m s k a ∙ same; ok = ap (sound 128) w.1 ∙ sound_after_take 128 (joined m n) s k a h; whole = w.1 },
+        accepts _ w.0,
+      )
+
+  pub took_back : (k a : ℕ) (q : Result (Unit {0}) Refused) (n' : Meaning) → r ≡ take_result m s k a → m' ≡ after_take m s k a → false ≡ is_ok r → q ≡ take_result n s k a → n' ≡ after_take n s k a → Is (after_take (joined m n) s k a) m' n' × (q ≡ take_result (joined m n) s k a)
+  took_back k a q n' e g t f u =
+      let w = take_back m n same h s k a m' n' (ok_tells (can_take m s k a) false r e t) g u in (
+        record { lots = ap (λ (z : Meaning). z.lot) g ∙ lot_after_take m s k a ∙ same ∙ sym (ap (λ (z : Meaning). z.lot) u ∙ lot_after_take n s k a); ok = ap (sound 128) w.1 ∙ sound_after_take 128 (joined m n) s k a h; whole = w.1 },
+        f ∙ ap when (sym w.0),
+      )
+
+  -- a take of all that is left is a removal
+  module _ (k l : ℕ) (few : sound 64 m ≡ true) (is : l ≡ left_of (side_of m s) k) (e : r ≡ take_result m s k l) (g : m' ≡ after_take m s k l) where
+    had : (b : Bool) → b ≡ is_ok r → has (side_of m s) k ≡ b
+    had b t = sym (ap (can_take m s k) is ∙ (take_whole 64 m s k few).0) ∙ ok_tells (can_take m s k l) b r e t
+
+    gone : m' ≡ after_remove m s k
+    gone = g ∙ ap (after_take m s k) is ∙ (take_whole 64 m s k few).1
+
+    pub removed_front : true ≡ is_ok r → Is (after_remove (joined m n) s k) m' n × (Ok tt ≡ remove_result (joined m n) s k)
+    removed_front t =
+        let w = remove_front m n same h s k m' (had true t) gone in (
+          record { lots = ap (λ (z : Meaning). z.lot) gone ∙ lot_after_remove m s k ∙ same; ok = ap (sound 128) w.1 ∙ sound_after_remove 128 (joined m n) s k h; whole = w.1 },
+          accepts _ w.0,
+        )
+
+    pub removed_back : (q : Result (Unit {0}) Refused) (n' : Meaning) → false ≡ is_ok r → q ≡ remove_result n s k → n' ≡ after_remove n s k → Is (after_remove (joined m n) s k) m' n' × (q ≡ remove_result (joined m n) s k)
+    removed_back q n' t f u =
+        let w = remove_back m n same h s k m' n' (had false t) gone u in (
+          record { lots = ap (λ (z : Meaning). z.lot) gone ∙ lot_after_remove m s k ∙ same ∙ sym (ap (λ (z : Meaning). z.lot) u ∙ lot_after_remove n s k); ok = ap (sound 128) w.1 ∙ sound_after_remove 128 (joined m n) s k h; whole = w.1 },
+          f ∙ ap when (sym w.0),
+        )
+
+-- an order that goes behind the first part
+pub entered : (m n : Meaning) → m.lot ≡ n.lot → sound 128 (joined m n) ≡ true → (s : Side) (o : Offer) (q : Result (Unit {0}) Refused) (n' : Meaning) → length (side_of (joined m n) s) < 128 → (has m.buys o.number.0 || has m.sells o.number.0) ≡ false
+    → q ≡ enter_result 128 n s o → n' ≡ after_enter 128 n s o → Is (after_enter 128 (joined m n) s o) m n' × (q ≡ enter_result 128 (joined m n) s o)
+entered m n same h s o q n' few new e g =
+    let w = enter_back m n same h s o n' few new g in (
+      record { lots = same ∙ sym (ap (λ (z : Meaning). z.lot) g ∙ lot_after_enter 128 n s o); ok = ap (sound 128) w.1 ∙ sound_after_enter 128 (joined m n) s o h; whole = w.1 },
+      e ∙ ap when (sym w.0),
+    )

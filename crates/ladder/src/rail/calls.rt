@@ -1,12 +1,13 @@
 // Raising a rail, and its answers.
-ghost use Rattle.std.specs.Prelude.{◌≡◌, ◌+◌, ◌-◌, ◌<◌, ◌≤◌, true, false, ◌++◌, length, drop, replicate, if◌then◌else◌, MatchOption, slice_index};
-ghost use Rattle.book.specs.Meaning.{at_place, has, left_of, list_takes, taken, when};
-ghost use Rattle.ladder.specs.Rungs.{first_number, rung_price, rung, rungs_of, prices_in_range, quantity_in_range};
+ghost use Rattle.std.specs.Prelude.{◌≡◌, ◌+◌, ◌<◌, ◌≤◌, true, false, ◌++◌, drop, filter, replicate, MatchOption, slice_get, slice_index};
+ghost use Rattle.std.specs.List.{enumerate_from};
+ghost use Rattle.book.specs.Meaning.{has, left_of};
+ghost use Rattle.ladder.specs.Rungs.{first_number, rung_price, rung, rungs_of, prices_in_range, quantity_in_range, stands};
 ghost use Rattle.ladder.specs.Rails.{rail_offers};
 
 use super::Rail;
 use crate::rungs::{MOST_RUNGS, Rungs, Step};
-use book::{Offer, Refused, whole_lots};
+use book::{Offer, OneSide, Refused, whole_lots};
 use units::{Firm, Lot, Number, Price, Quantity, Side};
 
 fn first_number(side: Side) -> u32
@@ -24,10 +25,10 @@ fn rung_of(side: Side, first: Price, step: Step, k: usize, left: u32) -> Offer
     requires fits { rung_price side first.0 step.0 k ≤ 1000000000 }
     ensures { result ≡ rung side first.0 step.0 k left }
 {
-    let away = k as u64 * step.0 as u64;
+    let away = k as u64 * u64::from(step.0);
     let price = match side {
-        Side::Buy => (first.0 as u64).saturating_sub(away),
-        Side::Sell => first.0 as u64 + away,
+        Side::Buy => u64::from(first.0).saturating_sub(away),
+        Side::Sell => u64::from(first.0) + away,
     };
     Offer {
         number: Number(first_number(side) + k as u32),
@@ -43,9 +44,7 @@ fn filled(count: usize, quantity: u32) -> [u32; MOST_RUNGS]
     ensures { result ≡ replicate count quantity ++ drop count (replicate 64 0) }
 {
     let mut left = [0; MOST_RUNGS];
-    for k in 0..count {
-        left[k] = quantity;
-    }
+    left[..count].fill(quantity);
     left
 }
 
@@ -65,56 +64,32 @@ impl Rail {
         }
     }
 
-    pub(crate) fn count(&self) -> usize
-        ensures { result ≡ length (rail_offers self.now) }
+    // The rung at a place among those of which something is left, with what is left of it.
+    fn standing_at(&self, place: usize) -> Option<(usize, u32)>
+        ensures { result ≡ slice_get (filter stands (enumerate_from 0 self.now.left)) place }
     {
-        let mut n = 0;
-        for k in 0..MOST_RUNGS {
-            if self.left[k] != 0 {
-                n += 1;
-            }
-        }
-        n
-    }
-
-    pub(crate) fn offer(&self, place: usize) -> Option<Offer>
-        ensures { result ≡ at_place (rail_offers self.now) place }
-    {
-        let mut skip = place;
-        for k in 0..MOST_RUNGS {
-            let left = self.left[k];
-            if left != 0 {
-                if skip == 0 {
-                    return Some(rung_of(self.side, self.first, self.step, k, left));
-                }
-                skip -= 1;
-            }
-        }
-        None
+        self.left
+            .iter()
+            .copied()
+            .enumerate()
+            .filter(|(_, left)| *left != 0)
+            .nth(place)
     }
 
     // The rung of the number, if something is left of it.
+    #[tactic(auto, using(crate::proofs::Standing::none_below, crate::proofs::Standing::none_above, crate::proofs::Standing::gone_is))]
     fn rung(&self, number: Number) -> Option<usize>
         ensures { MatchOption result (has (rail_offers self.now) number.0 ≡ false) (λ k. (k < 64) × (first_number self.now.side + k ≡ number.0) × (0 < slice_index self.now.left k)) }
     {
-        let base = first_number(self.side);
-        if number.0 < base || (number.0 - base) as usize >= MOST_RUNGS {
-            return None;
-        }
-        let k = (number.0 - base) as usize;
-        if self.left[k] == 0 {
+        let k = number.0.checked_sub(first_number(self.side))? as usize;
+        if *self.left.get(k)? == 0 {
             return None;
         }
         Some(k)
     }
 
-    pub(crate) fn has(&self, number: Number) -> bool
-        ensures { result ≡ has (rail_offers self.now) number.0 }
-    {
-        self.rung(number).is_some()
-    }
-
     // What is left of the number, 0 where no rung has it.
+    #[tactic(auto, using(crate::proofs::Standing::left_is, book::proofs::Lefts::left_none))]
     pub(crate) fn left(&self, number: Number) -> Quantity
         ensures { result.0 ≡ left_of (rail_offers self.now) number.0 }
     {
@@ -123,28 +98,34 @@ impl Rail {
             None => Quantity(0),
         }
     }
+}
 
-    // Less, or nothing, is left of a rung.
-    fn lower(&mut self, k: usize, left: u32)
-        requires within { k < 64 }
-        requires less { left < slice_index self.old.left k }
-        ensures { rail_offers self.new ≡ taken (rail_offers self.old) (first_number self.old.side + k) (slice_index self.old.left k - left) }
-    {
-        self.left[k] = left;
+impl OneSide for Rail {
+    ghost offers = { rail_offers };
+
+    #[tactic(auto, using(crate::proofs::Standing::standing_count))]
+    fn count(&self) -> usize {
+        self.left.iter().filter(|left| **left != 0).count()
     }
 
-    pub(crate) fn take(&mut self, lot: Lot, number: Number, amount: Quantity) -> Result<(), Refused>
-        ensures result { result ≡ when (list_takes lot.0 (rail_offers self.old) number.0 amount.0) }
-        ensures after { rail_offers self.new ≡ (if list_takes lot.0 (rail_offers self.old) number.0 amount.0 then taken (rail_offers self.old) number.0 amount.0 else rail_offers self.old) }
-    {
-        let Some(k) = self.rung(number) else {
-            return Err(Refused);
-        };
-        let left = self.left[k];
-        if !whole_lots(lot, amount) || left < amount.0 {
+    #[tactic(auto, using(crate::proofs::Standing::standing_none, crate::proofs::Standing::standing_some, crate::proofs::Standing::stands_few, crate::proofs::Standing::stands_some))]
+    fn offer(&self, place: usize) -> Option<Offer> {
+        let (k, left) = self.standing_at(place)?;
+        Some(rung_of(self.side, self.first, self.step, k, left))
+    }
+
+    #[tactic(auto, using(crate::proofs::Standing::has_is))]
+    fn has(&self, number: Number) -> bool {
+        self.rung(number).is_some()
+    }
+
+    #[tactic(auto, using(crate::proofs::Standing::has_is, crate::proofs::Standing::left_is, crate::proofs::Standing::lowered))]
+    fn take(&mut self, lot: Lot, number: Number, amount: Quantity) -> Result<(), Refused> {
+        let k = self.rung(number).ok_or(Refused)?;
+        if !whole_lots(lot, amount) || self.left[k] < amount.0 {
             return Err(Refused);
         }
-        self.lower(k, left - amount.0);
+        self.left[k] -= amount.0;
         Ok(())
     }
 }

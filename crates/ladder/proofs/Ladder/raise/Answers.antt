@@ -10,7 +10,7 @@ use Rattle.ladder.proofs.Ladder.raise.Goals as goal
 
 pub invariant_of-result : goal.invariant_of-result
 invariant_of-result c =
-    let lot = c.args.lot.0 in
+    let lot = c.args.plan.lot.0 in
     let buys = ap (λ (os : List Offer). sound 64 (meaning_of os (rail_offers c.raise-2.result) lot)) c.raise.ensures in
-    let sells = ap (λ (os : List Offer). sound 64 (meaning_of (rungs_of Buy c.args.buys) os lot)) c.raise-2.ensures in
-    record { ok = buys ∙ sells ∙ sound_raised lot c.args.buys c.args.sells c.requires }
+    let sells = ap (λ (os : List Offer). sound 64 (meaning_of (rungs_of Buy c.args.plan.buys) os lot)) c.raise-2.ensures in
+    record { ok = buys ∙ sells ∙ sound_raised c.args.plan c.requires }
