@@ -1,10 +1,9 @@
 -- The money of the first units in a ranked order is the best that any draw of as many units has.
-use Rattle.std.proofs.Common.{◌≡◌, ℕ, ◌+◌, ◌-◌, ◌*◌, ◌%◌, ◌≤◌, min, false, List, [], ◌∷◌, sum_by, sym, refl, ap, ◌∙◌, subst, ap₂, mul-zero, zero-add, mul-add, arith}
-use native.Mathlib.Nat.{zero-min, zero-sub}
+use Rattle.std.proofs.Common.{◌≡◌, ℕ, ◌+◌, ◌-◌, ◌*◌, ◌%◌, ◌≤◌, min, false, List, [], ◌∷◌, sum_by, sym, refl, ap, ◌∙◌, subst, mul-zero, mul-add, arith}
 use Rattle.std.specs.List.{AllByRecursion}
 use Rattle.std.proofs.ByRecursion.{All-weaker}
 use Rattle.std.proofs.lemmas.List.Sums.{sum_by-cons}
-use Rattle.std.proofs.lemmas.Bool.{eq-eqb, ne_eqb, ltb-false, cond-true, cond-false}
+use Rattle.std.proofs.lemmas.Bool.{ltb-false}
 use Rattle.ranked.specs.Lists.{InOrder}
 use Rattle.ranked.proofs.Sorting.{Distinct}
 use Rattle.draw.specs.Sides.{better, NoWorse}
@@ -41,16 +40,13 @@ held (o ∷ os) = o.left.0 + held os
 pub cost_zero : (os : List Eligible) → cost os 0 ≡ 0
 unfolding cost
 cost_zero [] = refl
-cost_zero (o ∷ os) = rw (zero-min, mul-zero, zero-sub, zero-add) (cost_zero os)
+cost_zero (o ∷ os) = let ih = cost_zero os in grind arith
 
 -- past all units there is no more to pay
 pub cost_min : (os : List Eligible) (n : ℕ) → cost os (min n (held os)) ≡ cost os n
 unfolding cost held
 cost_min [] n = refl
-cost_min (o ∷ os) n =
-    let first : min (min n (o.left.0 + held os)) o.left.0 ≡ min n o.left.0 = omega arith in
-    let later : min n (o.left.0 + held os) - o.left.0 ≡ min (n - o.left.0) (held os) = omega arith in
-    rw (first, later, cost_min os (n - o.left.0))
+cost_min (o ∷ os) n = let ih = cost_min os (n - o.left.0) in grind arith
 
 -- e units more cost at least e times a price that is no worse than any
 pub cost_step : (s : Side) (p : ℕ) (os : List Eligible) (m e : ℕ) → AllByRecursion (λ o. NoWorse s p o.price.0) os → m + e ≤ held os →
@@ -132,15 +128,15 @@ all_both P Q R f (x ∷ xs) p q = (f x p.0 q.0, all_both P Q R f xs p.1 q.1)
 
 pub sum_by_same : {X : Type 0} (f g : X → ℕ) (xs : List X) → AllByRecursion (λ x. f x ≡ g x) xs → sum_by f xs ≡ sum_by g xs
 sum_by_same f g [] a = refl
-sum_by_same f g (x ∷ xs) a = sum_by-cons f x xs ∙ (ap₂ (λ m n. m + n) a.0 (sum_by_same f g xs a.1) ∙ sym (sum_by-cons g x xs))
+sum_by_same f g (x ∷ xs) a = let ih = sum_by_same f g xs a.1 in let e = a.0 in rw (sum_by-cons f x xs, sum_by-cons g x xs) (grind arith)
 
 -- what it takes of the first offer, and of the others
 poured_first : (o : Eligible) (os : List Eligible) (n : ℕ) → poured (o ∷ os) n (named o) ≡ min n o.left.0
-poured_first o os n = cond-true _ _ _ (eq-eqb (named o) (named o) refl)
+poured_first o os n = grind arith
 
 poured_later : (o : Eligible) (os : List Eligible) (n : ℕ) → Distinct named (o ∷ os) →
     AllByRecursion (λ later. poured (o ∷ os) n (named later) ≡ poured os (n - o.left.0) (named later)) os
-poured_later o os n a = All-weaker _ _ (λ later ne. cond-false _ _ _ (ne_eqb (named later) (named o) ne)) os a.0
+poured_later o os n a = All-weaker _ _ (λ later ne. grind arith) os a.0
 
 pub poured_totals : (os : List Eligible) (n : ℕ) → Distinct named os → (size os (poured os n) ≡ min n (held os)) × (money os (poured os n) ≡ cost os n)
 unfolding cost held
@@ -164,4 +160,4 @@ poured_draw lot (o ∷ os) n a w h = (
 
 pub poured_only : (os : List Eligible) (n k : ℕ) → AllByRecursion (λ o. named o ≡ k → ⊥) os → poured os n k ≡ 0
 poured_only [] n k a = refl
-poured_only (o ∷ os) n k a = cond-false _ _ _ (ne_eqb k (named o) (λ h. a.0 (sym h))) ∙ poured_only os (n - o.left.0) k a.1
+poured_only (o ∷ os) n k a = let ih = poured_only os (n - o.left.0) k a.1 in let ne = a.0 in grind arith

@@ -1,10 +1,9 @@
 -- From what the walk finds to what the public calls on draws promise.
-use Rattle.std.proofs.Common.{◌≡◌, ℕ, ◌*◌, ◌<◌, ◌≤◌, Bool, true, false, cond, List, None, Option, sym, ap, ◌∙◌, subst, ap₂, arith}
+use Rattle.std.proofs.Common.{◌≡◌, ℕ, ◌*◌, ◌≤◌, Bool, true, List, Option, sym, ap, ◌∙◌, subst, ap₂, arith}
 use Rattle.std.specs.List.{AllByRecursion}
 use Rattle.std.specs.List.Sorted.{IsPermutation}
 use Rattle.std.proofs.lemmas.List.Sorted.{sum_by-IsPermutation}
 use Rattle.std.proofs.ByRecursion.{all_shuffled}
-use Rattle.std.proofs.lemmas.Bool.{le-leb, lt-leb, cond-true, cond-false}
 use Rattle.units.specs.Ranges.{is_lot, is_quantity}
 use Rattle.units.specs.declared.side.Side.{Side}
 use Rattle.units.specs.declared.Quantity.{Quantity}
@@ -17,26 +16,15 @@ use Rattle.draw.specs.Offers.{Ready, Pourable, Sound, named}
 use Rattle.draw.specs.Rankings.{request_before}
 use Rattle.draw.specs.Draws.{money, totals, Good, Decides, poured}
 use Rattle.draw.specs.Walk.{walk, answered, decided}
-use Rattle.draw.specs.Decisions.{Confirms, Serves, Shows, automatic}
+use Rattle.draw.specs.Decisions.{Confirms, Shows}
 use Rattle.draw.specs.Orders.{request_order, request_better}
 use Rattle.draw.proofs.Bounds.{lot_bounds, quantity_bounds, sound_whole, sound_some}
 use Rattle.draw.specs.Sides.{NoWorse}
-use Rattle.draw.proofs.Finds.{Priced, Lots, same_size, same_money, poured_size, poured_best, walk_decides, decides_alike, automatic_good, good_automatic}
-
--- a list that is ranked under a condition
-pub unless : (b : Bool) (xs ys : List Eligible) → b ≡ false → ys ≡ cond b xs ys
-unless b xs ys e = sym (cond-false b xs ys e)
-
-pub where_so : (b : Bool) (xs ys zs : List Eligible) → b ≡ true → zs ≡ xs → zs ≡ cond b xs ys
-where_so b xs ys zs e h = h ∙ sym (cond-true b xs ys e)
+use Rattle.draw.proofs.Finds.{Priced, Lots, same_size, same_money, poured_size, poured_best, walk_decides}
 
 -- the request ranking meets what best terms rest on
 pub request_priced : (s : Side) (os : List Eligible) → Apart named os → Priced s (request_before s) os
 request_priced s os a = record { apart = a; order = request_order s; better_is_first = request_better s }
-
--- ranked offers are as sound as they came
-pub ranked_sound : (before : Eligible → Eligible → Bool) (lot : ℕ) (os rs : List Eligible) → rs ≡ ranked before os → AllByRecursion (Sound lot) os → AllByRecursion (Sound lot) rs
-ranked_sound before lot os rs e a = subst (AllByRecursion (Sound lot)) (sym e) (all_shuffled (Sound lot) os (ranked before os) (ranked_shuffled before os) a)
 
 pub lots : (lot most : ℕ) (os : List Eligible) → is_lot lot ≡ true → is_quantity lot most ≡ true → AllByRecursion (Sound lot) os → Lots lot most os
 lots lot most os l q a = record { some = (let b = (lot_bounds lot l).0 in omega arith); whole_most = (quantity_bounds lot most q).2; whole = sound_whole lot os a }
@@ -52,8 +40,7 @@ ranked_pourable before lot most os rs e r =
 -- the answer to what the code's walk came to
 pub answer_is : (s s' : Side) (lot price least most : ℕ) (rs rs' : List Eligible) (n m : ℕ) (r : Option (Quantity × Money)) → r ≡ answered least (n, m) →
     n ≡ (walk s' lot price most rs' 0 0).0 → m ≡ (walk s' lot price most rs' 0 0).1 → s' ≡ s → rs' ≡ rs → r ≡ decided s lot price least most rs
-answer_is s s' lot price least most rs rs' n m r e en em es er =
-    e ∙ (ap₂ (λ (a b : ℕ). answered least (a, b)) en em ∙ ap₂ (λ (a : Side) (b : List Eligible). answered least (walk a lot price most b 0 0)) es er)
+answer_is s s' lot price least most rs rs' n m r e en em es er = grind arith
 
 module _ (s : Side) (before : Eligible → Eligible → Bool) (os : List Eligible) (k : Priced s before os) where
   same_ranking : (ys : List Eligible) → IsPermutation os ys → ranked before os ≡ ranked before ys
@@ -65,24 +52,6 @@ module _ (s : Side) (before : Eligible → Eligible → Bool) (os : List Eligibl
         value = e;
         decides = subst (Decides s before os (Good s lot price least most os)) (sym e) (walk_decides s before os k lot price least most l);
         any_order = λ ys h. e ∙ ap (decided s lot price least most) (same_ranking ys h);
-      }
-
-  pub serves : (lot limit quantity least_firms firms : ℕ) → 0 < quantity → (r : Option (Quantity × Money)) → least_firms ≤ firms → Confirms s before lot limit quantity quantity os r → Serves s before lot limit quantity least_firms firms os r
-  serves lot limit quantity least_firms firms some r h c =
-      let is : (ys : List Eligible) → automatic s lot limit quantity least_firms firms ys ≡ decided s lot limit quantity quantity ys = λ ys. cond-true _ _ _ (le-leb least_firms firms h) in
-      record {
-        value = c.value ∙ sym (is (ranked before os));
-        decides = decides_alike s before os _ _ (λ x. good_automatic s lot limit quantity least_firms firms os x h) (λ x g. automatic_good s lot limit quantity least_firms firms os x g some) r c.decides;
-        any_order = λ ys e. c.any_order ys e ∙ sym (is (ranked before ys));
-      }
-
-  pub serves_none : (lot limit quantity least_firms firms : ℕ) → firms < least_firms → Serves s before lot limit quantity least_firms firms os None
-  serves_none lot limit quantity least_firms firms h =
-      let is : (ys : List Eligible) → None ≡ automatic s lot limit quantity least_firms firms ys = λ ys. sym (cond-false _ _ _ (lt-leb least_firms firms h)) in
-      record {
-        value = is (ranked before os);
-        decides = λ x g. (let e = g.enough in omega arith);
-        any_order = λ ys e. is (ranked before ys);
       }
 
   -- the totals over the ranked offers as the code has them

@@ -43,7 +43,7 @@ whole_sum lot f (o ∷ os) a = rw sum_by-cons (whole_add lot (f o) (sum_by f os)
 held_sum : (os : List Eligible) → held os ≡ sum_by (λ o. o.left.0) os
 unfolding held
 held_sum [] = refl
-held_sum (o ∷ os) = rw sum_by-cons (ap (λ v. o.left.0 + v) (held_sum os))
+held_sum (o ∷ os) = let ih = held_sum os in rw sum_by-cons (grind arith)
 
 -- two draws that trade are one
 pub only_one : (before : Eligible → Eligible → Bool) (os : List Eligible) (IsGood : Draw → Type 0) (x y : Draw) → Trades before os IsGood x → Trades before os IsGood y → y ≡ x
@@ -101,11 +101,7 @@ module _ (s : Side) (before : Eligible → Eligible → Bool) (os : List Eligibl
 
     module _ (w : ℕ) (r : Reach s lot price most rs 0 0 w) where
       below : (x : Draw) → Good s lot price least most os x → size os x ≤ w
-      below x g =
-          let h = cheapest lot x g.draw in
-          let n = size os x in
-          r.greatest n h.0 (omega (arith, g.fits)) (whole_sum lot _ os (All-weaker _ _ (λ o b. b.1) os g.draw.each))
-          (chain s (cost rs n) (money os x) (price * n) _ (ap (λ v. price * v) (sym (zero-add n))) h.1 g.within)
+      below x g = let h = cheapest lot x g.draw in let n = size os x in r.greatest n h.0 (omega (arith, g.fits)) (whole_sum lot _ os (All-weaker _ _ (λ o b. b.1) os g.draw.each)) (chain s (cost rs n) (money os x) (price * n) _ (ap (λ v. price * v) (sym (zero-add n))) h.1 g.within)
         where
           chain : (s : Side) (a b c d : ℕ) → c ≡ d → NoWorse s a b → NoWorse s b c → NoWorse s (0 + a) d
           chain Buy a b c d e h i = omega arith

@@ -1,5 +1,5 @@
 -- What a request may draw on, gathered offer by offer; and that it is as sound and as much apart as what is offered.
-use Rattle.std.proofs.Common.{◌≡◌, ℕ, ◌≤◌, Bool, true, false, cond, eqb, List, [], ◌∷◌, ◌++◌, map, Some, None, count_by, filter, Option, refl, ap, ◌∙◌, subst, arith}
+use Rattle.std.proofs.Common.{◌≡◌, ℕ, ◌≤◌, true, cond, eqb, List, [], ◌∷◌, ◌++◌, map, Some, None, count_by, filter, Option, ap, ◌∙◌, arith}
 use Rattle.std.specs.List.{AllByRecursion}
 use Rattle.std.proofs.lemmas.List.Elements.{filter-append}
 use Rattle.std.proofs.ByRecursion.{All-weaker, All-map, all_kept_by}
@@ -22,11 +22,7 @@ module _ (t : Taker) where
   eligible_append xs ys = ap (map as_eligible) (filter-append (is_eligible t) xs ys) ∙ map-append as_eligible (filter (is_eligible t) xs) (filter (is_eligible t) ys)
 
   one : (o : Offered) (r : Option Eligible) → admitted t o ≡ r → eligible t (o ∷ []) ≡ listed r
-  one o r e = subst (λ (v : Option Eligible). eligible t (o ∷ []) ≡ listed v) e (go (is_eligible t o))
-    where
-      go : (b : Bool) → map as_eligible (cond b (o ∷ []) []) ≡ listed (cond b (Some (as_eligible o)) None)
-      go true = refl
-      go false = refl
+  one o r e = grind arith
 
   -- one offer more
   pub eligible_more : (xs : List Offered) (o : Offered) (r : Option Eligible) → admitted t o ≡ r → eligible t (xs ++ o ∷ []) ≡ eligible t xs ++ listed r
@@ -34,15 +30,7 @@ module _ (t : Taker) where
 
   fewer : (k : ℕ) (os : List Offered) → count_by (λ (o : Eligible). eqb (named o) k) (eligible t os) ≤ count_by (λ (o : Offered). eqb o.number.0 k) os
   fewer k [] = omega arith
-  fewer k (o ∷ os) = go (is_eligible t o) (fewer k os)
-    where
-      go : (b : Bool) → count_by (λ (x : Eligible). eqb (named x) k) (eligible t os) ≤ count_by (λ (x : Offered). eqb x.number.0 k) os →
-          count_by (λ (x : Eligible). eqb (named x) k) (map as_eligible (cond b (o ∷ filter (is_eligible t) os) (filter (is_eligible t) os))) ≤ count_by (λ (x : Offered). eqb x.number.0 k) (o ∷ os)
-      go true h =
-          let l = sum_by-cons (λ (x : Eligible). cond (eqb (named x) k) 1 0) (as_eligible o) (eligible t os) in
-          let r = sum_by-cons (λ (x : Offered). cond (eqb x.number.0 k) 1 0) o os in
-          omega arith
-      go false h = let r = sum_by-cons (λ (x : Offered). cond (eqb x.number.0 k) 1 0) o os in omega arith
+  fewer k (o ∷ os) = let ih = fewer k os in let l = sum_by-cons (λ (x : Eligible). cond (eqb (named x) k) 1 0) (as_eligible o) (eligible t os) in let r = sum_by-cons (λ (x : Offered). cond (eqb x.number.0 k) 1 0) o os in grind arith
 
   pub eligible_apart : (os : List Offered) → Apart (λ o. o.number.0) os → Apart named (eligible t os)
   eligible_apart os a k = let f = fewer k os in let h = a k in omega arith

@@ -1,4 +1,5 @@
 pub mod Sides
+pub mod Comparing
 pub mod Bounds
 pub mod Cost
 pub mod Reaching

@@ -1,16 +1,17 @@
 -- The fills that empty offers in their order: by places, as they are written, and the draw that they make up.
-use Rattle.std.proofs.Common.{◌≡◌, ℕ, ◌+◌, ◌-◌, ◌*◌, ◌<◌, ◌≤◌, min, Bool, true, false, cond, eqb, List, [], ◌∷◌, ◌++◌, map, length, get_or, take, drop, sum_by, count_by, sym, refl, ap, ◌∙◌, subst, ap₂, inl, inr, append_assoc, append-nil, zero-add, arith}
+use Rattle.std.proofs.Common.{◌≡◌, ℕ, ◌+◌, ◌-◌, ◌*◌, ◌<◌, ◌≤◌, min, cond, eqb, List, [], ◌∷◌, ◌++◌, map, length, get_or, take, drop, sum_by, count_by, sym, refl, ap, ◌∙◌, subst, inl, inr, append_assoc, append-nil, arith}
 use mathlib.Core.Path.{fun_ext}
 use Rattle.std.specs.List.{AllByRecursion}
 use Rattle.std.proofs.ByRecursion.{All-weaker}
 use Rattle.std.proofs.lemmas.List.{drop_more, drop_all}
 use Rattle.std.proofs.lemmas.List.Sums.{sum_by-cons}
-use Rattle.std.proofs.lemmas.Bool.{cond-false, ne_eqb, eqb-true, cases_eq}
-use Rattle.ranked.specs.Lists.{Apart}
+use Rattle.std.proofs.lemmas.Bool.{cases_eq}
+use Rattle.ranked.specs.Writes.{WritesFront}
+use Rattle.ranked.proofs.Fronts.{front_as}
 use Rattle.ranked.proofs.Sorting.{Distinct, distinct_from_apart}
 use Rattle.draw.specs.declared.offers.Eligible.{Eligible}
 use Rattle.draw.specs.declared.fills.Fill.{Fill}
-use Rattle.draw.specs.Offers.{named}
+use Rattle.draw.specs.Offers.{Pourable, named}
 use Rattle.draw.specs.Draws.{poured}
 use Rattle.draw.specs.Fills.{taken, fills, maker_of, offer_of, FillsUp}
 use Rattle.draw.proofs.Cost.{cost, held, cost_zero, poured_totals}
@@ -27,29 +28,25 @@ fills_none (o ∷ os) = refl
 
 pub fills_cons : (o : Eligible) (os : List Eligible) (n : ℕ) → 0 < n → fills (o ∷ os) n ≡ fill o (min n o.left.0) ∷ fills os (n - o.left.0)
 unfolding fills
-fills_cons o os n h = cond-false _ _ _ (ne_eqb n 0 (λ e. omega arith))
+fills_cons o os n h = grind arith
 
 -- one offer more, where q of n units are taken of it
 pub fills_more : (os : List Eligible) (i : ℕ) (d : Eligible) (n : ℕ) (f : Fill) (rest : ℕ) → i < length os → 0 < n → f ≡ fill (get_or os i d) (min n (get_or os i d).left.0) → rest ≡ n - f.quantity.0 →
     fills (drop i os) n ≡ f ∷ fills (drop (i + 1) os) rest
-fills_more os i d n f rest l h e r =
-    let q : f.quantity.0 ≡ min n (get_or os i d).left.0 = ap (λ (g : Fill). g.quantity.0) e in
-    ap (λ (v : List Eligible). fills v n) (drop_more os i d l)
-    ∙ (fills_cons (get_or os i d) (drop (i + 1) os) n h
-    ∙ ap₂ (λ (a : Fill) (b : ℕ). a ∷ fills (drop (i + 1) os) b) (sym e) (let z : n - (get_or os i d).left.0 ≡ rest = omega arith in z))
+fills_more os i d n f rest l h e r = let v = drop_more os i d l in let c = fills_cons (get_or os i d) (drop (i + 1) os) n h in grind arith
 
 pub fills_end : (os : List Eligible) (i n : ℕ) → length os ≤ i → fills (drop i os) n ≡ []
 unfolding fills
 fills_end os i n l = rw (drop_all i os l)
 
 -- nothing is left to write
-pub all_written : {X : Type 0} (tells : Fill → X) (ws : List X) (fs gs : List Fill) → gs ≡ [] → ws ++ map tells gs ≡ map tells fs → ws ≡ map tells fs
-all_written tells ws fs gs e h = sym (append-nil ws) ∙ (ap (λ (v : List Fill). ws ++ map tells v) (sym e) ∙ h)
+pub all_written : {X : Type 0} (tells : Fill → X) {old new : List X} {m n : ℕ} {ws : List X} (fs gs : List Fill) → WritesFront old new m ws → m ≡ n → gs ≡ [] → ws ++ map tells gs ≡ map tells fs → WritesFront old new n (map tells fs)
+all_written tells {old} {new} {m} {n} {ws} fs gs w e f h =
+    subst (λ k. WritesFront old new k (map tells fs)) e (front_as (sym (append-nil ws) ∙ (ap (λ (v : List Fill). ws ++ map tells v) (sym f) ∙ h)) w)
 
 -- one fill more is written
 pub one_written : {X : Type 0} (tells : Fill → X) (ws : List X) (f : Fill) (x : X) (fs gs hs : List Fill) → gs ≡ f ∷ hs → x ≡ tells f → ws ++ map tells gs ≡ map tells fs → (ws ++ x ∷ []) ++ map tells hs ≡ map tells fs
-one_written tells ws f x fs gs hs e ex h =
-    append_assoc ws (x ∷ []) (map tells hs) ∙ (ap (λ y. ws ++ y ∷ map tells hs) ex ∙ (ap (λ (v : List Fill). ws ++ map tells v) (sym e) ∙ h))
+one_written tells ws f x fs gs hs e ex h = let p = append_assoc ws (x ∷ []) (map tells hs) in grind arith
 
 -- ── the draw ──
 
@@ -57,44 +54,17 @@ one_written tells ws f x fs gs hs e ex h =
 taken_cons : (o : Eligible) (os : List Eligible) (n k : ℕ) →
     taken (fills (o ∷ os) n) k ≡ cond (eqb k (named o)) (min n o.left.0) 0 + taken (fills os (n - o.left.0)) k
 unfolding fills
-taken_cons o os n k = elim (cases_eq n 0) [ inl e ↦ none e | inr h ↦ some h ]
-  where
-    pick : (b : Bool) (x : ℕ) → x ≡ 0 → cond b x 0 ≡ 0
-    pick true x e = e
-    pick false x e = refl
-
-    none : n ≡ 0 → taken (fills (o ∷ os) n) k ≡ cond (eqb k (named o)) (min n o.left.0) 0 + taken (fills os (n - o.left.0)) k
-    none e =
-        let l = ap (λ v. taken v k) (ap (fills (o ∷ os)) e ∙ fills_none (o ∷ os)) in
-        let r = ap (λ v. taken v k) (ap (fills os) (let z : n - o.left.0 ≡ 0 = omega arith in z) ∙ fills_none os) in
-        let p = pick (eqb k (named o)) (min n o.left.0) (omega arith) in
-        omega arith
-
-    some : (n ≡ 0 → ⊥) → taken (fills (o ∷ os) n) k ≡ cond (eqb k (named o)) (min n o.left.0) 0 + taken (fills os (n - o.left.0)) k
-    some h =
-        ap (λ v. taken v k) (fills_cons o os n (omega arith))
-        ∙ sum_by-cons (λ (f : Fill). cond (eqb k f.maker.0) f.quantity.0 0) (fill o (min n o.left.0)) (fills os (n - o.left.0))
+taken_cons o os n k = let c = sum_by-cons (λ (f : Fill). cond (eqb k f.maker.0) f.quantity.0 0) (fill o (min n o.left.0)) (fills os (n - o.left.0)) in let z = fills_none os in elim (cases_eq n 0) [ inl e ↦ grind arith | inr h ↦ grind arith ]
 
 not_taken : (k : ℕ) (os : List Eligible) (n : ℕ) → AllByRecursion (λ o. named o ≡ k → ⊥) os → taken (fills os n) k ≡ 0
 unfolding fills
 not_taken k [] n a = refl
-not_taken k (o ∷ os) n a =
-    let e = cond-false (eqb k (named o)) (min n o.left.0) 0 (ne_eqb k (named o) (λ h. a.0 (sym h))) in
-    let r = not_taken k os (n - o.left.0) a.1 in
-    taken_cons o os n k ∙ omega arith
+not_taken k (o ∷ os) n a = let r = not_taken k os (n - o.left.0) a.1 in let ne = a.0 in let t = taken_cons o os n k in grind arith
 
 taken_at : (k : ℕ) (os : List Eligible) (n : ℕ) → Distinct named os → taken (fills os n) k ≡ poured os n k
 unfolding fills
 taken_at k [] n a = refl
-taken_at k (o ∷ os) n a = taken_cons o os n k ∙ go (eqb k (named o)) refl (taken_at k os (n - o.left.0) a.1)
-  where
-    go : (b : Bool) → eqb k (named o) ≡ b → taken (fills os (n - o.left.0)) k ≡ poured os (n - o.left.0) k →
-        cond b (min n o.left.0) 0 + taken (fills os (n - o.left.0)) k ≡ cond b (min n o.left.0) (poured os (n - o.left.0) k)
-    go true e h =
-        let z = eqb-true k (named o) e in
-        let r = not_taken k os (n - o.left.0) (All-weaker _ _ (λ x ne i. ne (i ∙ z)) os a.0) in
-        omega arith
-    go false e h = zero-add _ ∙ h
+taken_at k (o ∷ os) n a = let ih = taken_at k os (n - o.left.0) a.1 in let t = taken_cons o os n k in elim (cases_eq k (named o)) [ inl e ↦ (let r = not_taken k os (n - o.left.0) (All-weaker _ _ (λ x ne i. ne (i ∙ e)) os a.0) in grind arith) | inr h ↦ grind arith ]
 
 -- the fills make up the draw that empties the offers in their order
 pub taken_is : (os : List Eligible) (n : ℕ) → Distinct named os → taken (fills os n) ≡ poured os n
@@ -136,15 +106,15 @@ unfolding cost
 sum_cash = by_offers (λ os n fs. sum_by (λ (f : Fill). f.price.0 * f.quantity.0) fs ≡ cost os n) (λ n. refl) (λ o os. sym (cost_zero (o ∷ os)))
     (λ o os n h e. let l = sum_by-cons (λ (f : Fill). f.price.0 * f.quantity.0) (fill o (min n o.left.0)) (fills os (n - o.left.0)) in omega arith)
 
-pub fills_up : (os : List Eligible) (n : ℕ) → Apart named os → AllByRecursion (λ o. 0 < o.left.0) os → FillsUp os n (fills os n)
-fills_up os n a s =
-    let d = distinct_from_apart named os a in
+pub fills_up : (os : List Eligible) (n : ℕ) → Pourable os → FillsUp os n (fills os n)
+fills_up os n p =
+    let d = distinct_from_apart named os p.apart in
     let t = poured_totals os n d in
     record {
       drawn = taken_is os n d;
       in_order = in_order os n;
-      once = λ k. (let f = fewer k os n in let h = a k in omega arith);
-      some = all_some os n s;
+      once = λ k. (let f = fewer k os n in let h = p.apart k in omega arith);
+      some = all_some os n p.some;
       units = sum_units os n ∙ sym t.0;
       cash = sum_cash os n ∙ sym t.1;
     }

@@ -1,5 +1,5 @@
 -- What is no worse to a side, and whole lots. Each lemma is one text for a buyer and a seller.
-use Rattle.std.proofs.Common.{◌≡◌, ℕ, ◌+◌, ◌-◌, ◌*◌, ◌/◌, ◌%◌, ◌<◌, ◌≤◌, min, true, false, ◌⊎◌, ap, ◌∙◌, subst, inl, inr, mul-le-mul_right, mul_assoc, mul_comm, add-mul, mul-pos, div-add-mod', le-div_iff_mul-le, mul-add, div-mul-le_self, arith}
+use Rattle.std.proofs.Common.{◌≡◌, ℕ, ◌+◌, ◌-◌, ◌*◌, ◌/◌, ◌%◌, ◌<◌, ◌≤◌, min, true, false, ◌⊎◌, ap, ◌∙◌, inl, inr, mul-le-mul_right, mul_assoc, mul_comm, add-mul, mul-pos, div-add-mod', le-div_iff_mul-le, mul-add, div-mul-le_self, arith}
 use native.Mathlib.Nat.{dvd_of_mod-eq-zero, mod-eq-zero_of_dvd, dvd-add, dvd-sub, lt_of_mul-lt-mul_left}
 use Rattle.std.proofs.lemmas.Bool.{leb-true, leb-false, cases_lt}
 use Rattle.draw.specs.Sides.{NoWorse, no_worse}
@@ -70,13 +70,7 @@ pub whole_sub : (lot a b : ℕ) → a % lot ≡ 0 → b % lot ≡ 0 → (a - b) 
 whole_sub lot a b h k = mod-eq-zero_of_dvd lot (dvd-sub lot (dvd_of_mod-eq-zero lot h) (dvd_of_mod-eq-zero lot k))
 
 pub whole_min : (lot a b : ℕ) → a % lot ≡ 0 → b % lot ≡ 0 → min a b % lot ≡ 0
-whole_min lot a b h k = elim (cases_lt a b) [ inl l ↦ subst (λ x. x % lot ≡ 0) (at_left l) h | inr l ↦ subst (λ x. x % lot ≡ 0) (at_right l) k ]
-  where
-    at_left : a < b → a ≡ min a b
-    at_left l = omega arith
-
-    at_right : b ≤ a → b ≡ min a b
-    at_right l = omega arith
+whole_min lot a b h k = grind arith
 
 -- what is paid for of an offer that would take a walk out of the limit: some lots, and not all that is wanted
 module _ (s : Side) (lot price n m q t : ℕ) (lots : 0 < lot) (i : NoWorse s m (price * n)) (w : Worse s (m + q * t) (price * (n + t))) where
@@ -96,7 +90,7 @@ module _ (s : Side) (lot price n m q t : ℕ) (lots : 0 < lot) (i : NoWorse s m 
   apart = some s q price worse
     where
       some : (s : Side) (a b : ℕ) → Worse s a b → 0 < gap a b
-      some Buy a b h = omega arith
+      some Buy a b h = grind arith
       some Sell a b h = omega arith
 
   -- a multiple k of the lot is paid for exactly where k is at most the part
@@ -120,4 +114,4 @@ module _ (s : Side) (lot price n m q t : ℕ) (lots : 0 < lot) (i : NoWorse s m 
   part_room = lt_of_mul-lt-mul_left d (elim (cases_lt (d * k₀) (d * t)) [ inl h ↦ h | inr h ↦ absurd (no h) ])
     where
       no : d * t ≤ d * k₀ → ⊥
-      no h = clash s (m + q * t) (price * (n + t)) (paid s q price m n t i worse (let z = part_paid in omega arith)) w
+      no h = let z = part_paid in clash s (m + q * t) (price * (n + t)) (paid s q price m n t i worse (grind arith)) w

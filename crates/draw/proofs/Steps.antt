@@ -1,7 +1,7 @@
 -- The walk, the first units and the draw by places: one offer more, the offer at which they stop, and the end; and what keeps totals in range.
 use Rattle.std.proofs.Common.{◌≡◌, ℕ, ◌+◌, ◌-◌, ◌*◌, ◌<◌, ◌≤◌, min, Bool, true, false, cond, List, length, get_or, drop, sym, refl, ap, ◌∙◌, ap₂, mul-le-mul_right, mul-pos, arith}
 use Rattle.std.proofs.lemmas.List.{drop_more, drop_all}
-use Rattle.std.proofs.lemmas.Bool.{cond-true, cond-false, eq-eqb, ne_eqb}
+use Rattle.std.proofs.lemmas.Bool.{cond-true, cond-false}
 use Rattle.draw.specs.Sides.{NoWorse, no_worse}
 use Rattle.draw.specs.Offers.{named}
 use Rattle.draw.specs.Draws.{poured}
@@ -45,7 +45,7 @@ grown q t n m most hq hn hm h = let k = mul-le-mul_right t hq in (omega arith, o
 module _ (s : Side) (lot price most : ℕ) (os : List Eligible) (i : ℕ) (d : Eligible) (n m t N M : ℕ)
     (l : i < length os) (et : t ≡ room most n (get_or os i d)) (eN : N ≡ n + t) (eM : M ≡ m + (get_or os i d).price.0 * t) where
   fits_is : (b : Bool) → b ≡ no_worse s M (price * N) → fitting s price n m (get_or os i d).price.0 t ≡ b
-  fits_is b h = ap₂ (λ x y. no_worse s x (price * y)) (sym eM) (sym eN) ∙ sym h
+  fits_is b h = grind arith
 
   pub turn_more : true ≡ no_worse s M (price * N) → walk s lot price most (drop (i + 1) os) N M ≡ walk s lot price most (drop i os) n m
   turn_more h = ap₂ (λ x y. walk s lot price most (drop (i + 1) os) x y) eN eM ∙ sym (walk_more s lot price most os i d n m _ t l refl et (fits_is true h))
@@ -88,12 +88,13 @@ unfolding cost held
 first_end most os i n m l = rw (drop_all i os l) (omega arith, omega arith)
 
 -- the draw that empties offers by places: the offer of the number, an offer before it, and the end
-pub poured_here : (os : List Eligible) (i : ℕ) (d : Eligible) (n k : ℕ) → i < length os → named (get_or os i d) ≡ k → poured (drop i os) n k ≡ min n (get_or os i d).left.0
-poured_here os i d n k l e = ap (λ (v : List Eligible). poured v n k) (drop_more os i d l) ∙ cond-true _ _ _ (eq-eqb k (named (get_or os i d)) (sym e))
+pub poured_here : (os : List Eligible) (i n k : ℕ) → i < length os → named (get_or os i nothing) ≡ k → poured (drop i os) n k ≡ min n (get_or os i nothing).left.0
+poured_here os i n k l e = let v = drop_more os i nothing l in grind arith
 
-pub poured_more : (os : List Eligible) (i : ℕ) (d : Eligible) (n k rest : ℕ) → i < length os → (named (get_or os i d) ≡ k → ⊥) → rest ≡ n - (get_or os i d).left.0 → poured (drop (i + 1) os) rest k ≡ poured (drop i os) n k
-poured_more os i d n k rest l ne e =
-    ap (λ v. poured (drop (i + 1) os) v k) e ∙ sym (ap (λ (v : List Eligible). poured v n k) (drop_more os i d l) ∙ cond-false _ _ _ (ne_eqb k (named (get_or os i d)) (λ h. ne (sym h))))
+pub poured_more : (os : List Eligible) (i n k : ℕ) → i < length os → (named (get_or os i nothing) ≡ k → ⊥) → poured (drop i os) n k ≡ poured (drop (i + 1) os) (n - (get_or os i nothing).left.0) k
+poured_more os i n k l ne = let v = drop_more os i nothing l in grind arith
 
 pub poured_end : (os : List Eligible) (i n k : ℕ) → length os ≤ i → poured (drop i os) n k ≡ 0
 poured_end os i n k l = rw (drop_all i os l)
+
+pub ruleset pouring = (poured_here, poured_more, poured_end)

@@ -3,11 +3,10 @@ use Rattle.std.specs.Prelude.{◌≡◌, ℕ, List, [], ◌∷◌, map, Some, No
 use Rattle.std.specs.List.{AllByRecursion}
 use Rattle.units.specs.declared.side.Side.{Side}
 use Rattle.units.specs.declared.side.Side.TheVariants.{Buy, Sell}
+use Rattle.units.specs.declared.Number.{Number}
 use Rattle.units.specs.declared.Quantity.{Quantity}
 use Rattle.units.specs.declared.Money.{Money}
 use Rattle.ranked.specs.Lists.{ranked}
-use Rattle.draw.specs.declared.offers.Source.{Source}
-use Rattle.draw.specs.declared.offers.Source.TheVariants.{Book, AnswerTo}
 use Rattle.draw.specs.declared.offers.Offered.{Offered}
 use Rattle.draw.specs.declared.offers.Eligible.{Eligible}
 use Rattle.draw.specs.Offers.{eligible, named}
@@ -17,16 +16,16 @@ use Rattle.draw.specs.Prices.{shown}
 
 -- ── who offers ──
 
-abbrev offered : Source → Side → ℕ → ℕ → ℕ → ℕ → Offered
-offered source side number firm price left =
-    record { number = record { 0 = number }; firm = record { 0 = firm }; side = side; price = record { 0 = price }; left = record { 0 = left }; source = source }
+abbrev offered : Option Number → Side → ℕ → ℕ → ℕ → ℕ → Offered
+offered answers_to side number firm price left =
+    record { number = record { 0 = number }; firm = record { 0 = firm }; side = side; price = record { 0 = price }; left = record { 0 = left }; answers_to = answers_to }
 
 abbrev in_book : Side → ℕ → ℕ → ℕ → ℕ → Offered
-in_book = offered Book
+in_book = offered None
 
 -- the request has the number 2 and is firm 1's
 abbrev answers : Side → ℕ → ℕ → ℕ → ℕ → Offered
-answers = offered (AnswerTo (record { 0 = 2 }))
+answers = offered (Some (record { 0 = 2 }))
 
 abbrev offered_to : Side → List Offered → List Eligible
 offered_to side os = eligible (record { number = record { 0 = 2 }; firm = record { 0 = 1 }; side = side }) os
@@ -86,7 +85,7 @@ table =
     ∷ Row.confirmed Buy few 3 0 1 1 (trades 2 2)
     ∷ Row.confirmed Buy few 3 3 1 1 None
     -- neither a bid of the book nor an answer to another request is drawn on by a buyer
-    ∷ Row.ranks Buy (offered_to Buy (in_book Buy 5 4 980 100 ∷ offered (AnswerTo (record { 0 = 7 })) Sell 8 3 970 100 ∷ answers Sell 3 2 990 100 ∷ in_book Sell 1 4 980 100 ∷ [])) (1 ∷ 3 ∷ [])
+    ∷ Row.ranks Buy (offered_to Buy (in_book Buy 5 4 980 100 ∷ offered (Some (record { 0 = 7 })) Sell 8 3 970 100 ∷ answers Sell 3 2 990 100 ∷ in_book Sell 1 4 980 100 ∷ [])) (1 ∷ 3 ∷ [])
     ∷ []
 
 abbrev pub Worked : Type 0

@@ -1,13 +1,12 @@
 -- Which offers a request may draw on.
-use Rattle.std.specs.Prelude.{◌≡◌, ℕ, ◌<◌, Bool, true, false, cond, ◌&&◌, List, map, Some, None, filter, Option, ◌==◌}
+use Rattle.std.specs.Prelude.{◌≡◌, ℕ, ◌<◌, Bool, true, false, cond, ◌&&◌, List, map, Some, None, filter, Option, is_some, ◌==◌}
 use Rattle.std.specs.List.{AllByRecursion}
 use Rattle.units.specs.declared.side.Side.{Side}
 use Rattle.units.specs.declared.side.Side.TheVariants as sides
+use Rattle.units.specs.declared.Number.{Number}
 use Rattle.units.specs.Sides.{other}
 use Rattle.units.specs.Ranges.{is_price, is_quantity, is_lot}
 use Rattle.ranked.specs.Lists.{Apart}
-use Rattle.draw.specs.declared.offers.Source.{Source}
-use Rattle.draw.specs.declared.offers.Source.TheVariants.{Book, AnswerTo}
 use Rattle.draw.specs.declared.offers.Offered.{Offered}
 use Rattle.draw.specs.declared.offers.Taker.{Taker}
 use Rattle.draw.specs.declared.offers.Eligible.{Eligible}
@@ -18,21 +17,17 @@ same_side sides.Buy sides.Sell = false
 same_side sides.Sell sides.Buy = false
 same_side sides.Sell sides.Sell = true
 
--- whether it stands where the request of that number may draw: in the book, or as an answer to this very request
-abbrev pub open_to : ℕ → Source → Bool
-open_to request Book = true
-open_to request (AnswerTo n) = n.0 == request
+-- whether the request of that number may draw on what answers so: on an offer of the book, or on an answer to this very request
+abbrev pub open_to : ℕ → Option Number → Bool
+open_to request None = true
+open_to request (Some n) = n.0 == request
 
 -- eligible to a request's buyer are the book's offers to sell and the answers that sell to this request; to a seller, the mirror
 abbrev pub is_eligible : Taker → Offered → Bool
-is_eligible t o = same_side o.side (other t.side) && open_to t.number.0 o.source
-
-abbrev pub is_answer_source : Source → Bool
-is_answer_source Book = false
-is_answer_source (AnswerTo n) = true
+is_eligible t o = same_side o.side (other t.side) && open_to t.number.0 o.answers_to
 
 abbrev pub as_eligible : Offered → Eligible
-as_eligible o = record { number = o.number; firm = o.firm; price = o.price; left = o.left; is_answer = is_answer_source o.source }
+as_eligible o = record { number = o.number; firm = o.firm; price = o.price; left = o.left; is_answer = is_some o.answers_to }
 
 -- what the request may draw on of one offer
 abbrev pub admitted : Taker → Offered → Option Eligible

@@ -1,5 +1,7 @@
 // Deciding what trades: one ranking of the eligible offers and one pass over them.
-ghost use Rattle.std.specs.Prelude.{◌≡◌, ◌≤◌, true, not, leb, length, take, drop, is_some, if◌then◌else◌, nat_le};
+// What a decision takes for granted of its offers and promises of them is one word each (`Ready`, `Pourable`, `ranked`). They stay a plain slice,
+// since they lie in places that the caller lends and gives on to `execute`: a struct around them would be taken apart at each call.
+ghost use Rattle.std.specs.Prelude.{◌≡◌, ◌≤◌, true, not, leb, is_some, if◌then◌else◌, nat_le};
 ghost use Rattle.std.specs.List.{AllByRecursion};
 ghost use Rattle.units.specs.Ranges.{is_price};
 ghost use Rattle.ranked.specs.Lists.{Apart, ranked};
@@ -16,144 +18,76 @@ use units::{FirmCount, Lot, Money, Price, Quantity};
 fn answer(totals: (Quantity, Money), least: Quantity) -> Option<(Quantity, Money)>
     ensures { result ≡ answered least.0 (totals.0.0, totals.1.0) }
 {
-    if totals.0.0 == 0 || totals.0.0 < least.0 {
+    let (size, _) = totals;
+    if size == Quantity(0) || size < least {
         return None;
     }
     Some(totals)
 }
 
-// Ranks the first `n` offers and walks over them.
-fn rank_and_walk<R: OfferRanking>(
-    rule: &R,
-    offers: &mut [Eligible],
-    n: usize,
-    lot: Lot,
-    price: Price,
-    least: Quantity,
-    most: Quantity,
-) -> Option<(Quantity, Money)>
-    requires places { n ≤ length offers.old }
-    requires ready { Ready lot.0 most.0 (take n offers.old) }
-    requires price { is_price price.0 ≡ true }
-    ensures result { Confirms (R.favours rule.now) (R.Ranking.before rule.now) lot.0 price.0 least.0 most.0 (take n offers.old) result }
-    ensures first { take n offers.new ≡ ranked (R.Ranking.before rule.now) (take n offers.old) }
-    ensures rest { drop n offers.new ≡ drop n offers.old }
-    ensures pourable { Pourable (take n offers.new) }
-{
-    rank(rule, offers, n);
-    answer(walk(&offers[..n], rule.side(), lot, price, most), least)
-}
-
-// What a confirmation at `price` trades of the first `n` offers, which are ranked: size and money, or none where no draw is good.
+// What a confirmation at `price` trades of the offers, which it ranks: size and money, or none where no draw is good.
 pub fn decide<R: OfferRanking>(
     rule: &R,
     offers: &mut [Eligible],
-    n: usize,
     lot: Lot,
     price: Price,
     least: Quantity,
     most: Quantity,
 ) -> Option<(Quantity, Money)>
-    requires places { n ≤ length offers.old }
-    requires ready { Ready lot.0 most.0 (take n offers.old) }
+    requires ready { Ready lot.0 most.0 offers.old }
     requires price { is_price price.0 ≡ true }
-    ensures result { Confirms (R.favours rule.now) (R.Ranking.before rule.now) lot.0 price.0 least.0 most.0 (take n offers.old) result }
-    ensures first { take n offers.new ≡ ranked (R.Ranking.before rule.now) (take n offers.old) }
-    ensures rest { drop n offers.new ≡ drop n offers.old }
-    ensures pourable { Pourable (take n offers.new) }
+    ensures result { Confirms (R.favours rule.now) (R.Ranking.before rule.now) lot.0 price.0 least.0 most.0 offers.old result }
+    ensures order { offers.new ≡ ranked (R.Ranking.before rule.now) offers.old }
+    ensures pourable { Pourable offers.new }
 {
-    rank_and_walk(rule, offers, n, lot, price, least, most)
+    rank(rule, offers);
+    answer(walk(offers, rule.side(), lot, price, most), least)
 }
 
 // Whether living answers come from too few firms for an automatic request.
 fn too_few(firms: FirmCount, least: FirmCount) -> bool
     ensures { result ≡ not (nat_le least.0 firms.0) }
 {
-    firms.0 < least.0
+    firms < least
 }
 
-// Looks at the firms first, since without enough of them no draw is good.
-fn serve<R: OfferRanking>(
+// What a turn of an automatic request trades of the offers, where living answers to it come from so many firms. It looks at the firms first,
+// since without enough of them no draw is good, and then leaves the offers as they came.
+#[tactic(auto, using(crate::proofs::Decided::ready_pourable))]
+pub fn decide_automatic<R: OfferRanking>(
     rule: &R,
     offers: &mut [Eligible],
-    n: usize,
     lot: Lot,
     limit: Price,
     quantity: Quantity,
     least_firms: FirmCount,
     firms: FirmCount,
 ) -> Option<(Quantity, Money)>
-    requires places { n ≤ length offers.old }
-    requires ready { Ready lot.0 quantity.0 (take n offers.old) }
+    requires ready { Ready lot.0 quantity.0 offers.old }
     requires price { is_price limit.0 ≡ true }
-    ensures result { Serves (R.favours rule.now) (R.Ranking.before rule.now) lot.0 limit.0 quantity.0 least_firms.0 firms.0 (take n offers.old) result }
-    ensures first { take n offers.new ≡ (if leb least_firms.0 firms.0 then ranked (R.Ranking.before rule.now) (take n offers.old) else take n offers.old) }
-    ensures found { is_some result ≡ true → take n offers.new ≡ ranked (R.Ranking.before rule.now) (take n offers.old) }
-    ensures rest { drop n offers.new ≡ drop n offers.old }
-    ensures pourable { Pourable (take n offers.new) }
+    ensures result { Serves (R.favours rule.now) (R.Ranking.before rule.now) lot.0 limit.0 quantity.0 least_firms.0 firms.0 offers.old result }
+    ensures order { offers.new ≡ (if leb least_firms.0 firms.0 then ranked (R.Ranking.before rule.now) offers.old else offers.old) }
+    ensures found { is_some result ≡ true → offers.new ≡ ranked (R.Ranking.before rule.now) offers.old }
+    ensures pourable { Pourable offers.new }
 {
     if too_few(firms, least_firms) {
         return None;
     }
-    rank_and_walk(rule, offers, n, lot, limit, quantity, quantity)
+    decide(rule, offers, lot, limit, quantity, quantity)
 }
 
-// What a turn of an automatic request trades of the first `n` offers, where living answers to it come from so many firms.
-pub fn decide_automatic<R: OfferRanking>(
-    rule: &R,
-    offers: &mut [Eligible],
-    n: usize,
-    lot: Lot,
-    limit: Price,
-    quantity: Quantity,
-    least_firms: FirmCount,
-    firms: FirmCount,
-) -> Option<(Quantity, Money)>
-    requires places { n ≤ length offers.old }
-    requires ready { Ready lot.0 quantity.0 (take n offers.old) }
-    requires price { is_price limit.0 ≡ true }
-    ensures result { Serves (R.favours rule.now) (R.Ranking.before rule.now) lot.0 limit.0 quantity.0 least_firms.0 firms.0 (take n offers.old) result }
-    ensures first { take n offers.new ≡ (if leb least_firms.0 firms.0 then ranked (R.Ranking.before rule.now) (take n offers.old) else take n offers.old) }
-    ensures found { is_some result ≡ true → take n offers.new ≡ ranked (R.Ranking.before rule.now) (take n offers.old) }
-    ensures rest { drop n offers.new ≡ drop n offers.old }
-    ensures pourable { Pourable (take n offers.new) }
-{
-    serve(rule, offers, n, lot, limit, quantity, least_firms, firms)
-}
-
-// Ranks the first `n` offers and totals their first units.
-fn rank_and_total<R: OfferRanking>(
-    rule: &R,
-    offers: &mut [Eligible],
-    n: usize,
-    quantity: Quantity,
-) -> (Quantity, Money)
-    requires places { n ≤ length offers.old }
-    requires prices { AllByRecursion (λ o. is_price o.price.0 ≡ true) (take n offers.old) }
-    requires apart { Apart named (take n offers.old) }
-    requires quantity { quantity.0 ≤ 1000000 }
-    ensures result { Shows (R.favours rule.now) (R.Ranking.before rule.now) quantity.0 (take n offers.old) result }
-    ensures first { take n offers.new ≡ ranked (R.Ranking.before rule.now) (take n offers.old) }
-    ensures rest { drop n offers.new ≡ drop n offers.old }
-{
-    rank(rule, offers, n);
-    first_units(&offers[..n], quantity)
-}
-
-// Size and money of a status: of the quantity, or of all there is, without a limit.
+// Size and money of a status of the offers, which it ranks: of the quantity, or of all there is, without a limit.
 pub fn total_status<R: OfferRanking>(
     rule: &R,
     offers: &mut [Eligible],
-    n: usize,
     quantity: Quantity,
 ) -> (Quantity, Money)
-    requires places { n ≤ length offers.old }
-    requires prices { AllByRecursion (λ o. is_price o.price.0 ≡ true) (take n offers.old) }
-    requires apart { Apart named (take n offers.old) }
+    requires prices { AllByRecursion (λ o. is_price o.price.0 ≡ true) offers.old }
+    requires apart { Apart named offers.old }
     requires quantity { quantity.0 ≤ 1000000 }
-    ensures result { Shows (R.favours rule.now) (R.Ranking.before rule.now) quantity.0 (take n offers.old) result }
-    ensures first { take n offers.new ≡ ranked (R.Ranking.before rule.now) (take n offers.old) }
-    ensures rest { drop n offers.new ≡ drop n offers.old }
+    ensures result { Shows (R.favours rule.now) (R.Ranking.before rule.now) quantity.0 offers.old result }
+    ensures order { offers.new ≡ ranked (R.Ranking.before rule.now) offers.old }
 {
-    rank_and_total(rule, offers, n, quantity)
+    rank(rule, offers);
+    first_units(offers, quantity)
 }

@@ -2,16 +2,10 @@
 ghost use Rattle.std.specs.Prelude.{◌≡◌, length};
 ghost use Rattle.draw.specs.Examples.{table, Worked};
 
-// Each worked example holds.
-fn examples_hold()
-    ensures { Worked }
-{}
-
-// How many worked examples there are; all of them hold.
+// How many worked examples there are; all of them hold. The number is a literal, since the table stands in the definitions alone.
 pub fn worked_examples() -> usize
     ensures count { result ≡ length table }
     ensures hold { Worked }
 {
-    examples_hold();
     14
 }

@@ -1,6 +1,6 @@
 // The fills of a draw, written where the caller reports them.
-ghost use Rattle.std.specs.Prelude.{◌≡◌, ℕ, ◌+◌, ◌<◌, ◌≤◌, min, map, length};
-ghost use Rattle.ranked.specs.Writes.{Writes};
+ghost use Rattle.std.specs.Prelude.{◌≡◌, ℕ, ◌≤◌, min, map, length};
+ghost use Rattle.ranked.specs.Writes.{WritesFront};
 ghost use Rattle.draw.specs.declared.fills.Fill.{Fill};
 ghost use Rattle.draw.specs.Offers.{Pourable};
 ghost use Rattle.draw.specs.Fills.{fills, traded, FillsUp, FairConfirmation, FairTurn};
@@ -9,7 +9,7 @@ use super::Eligible;
 use units::{Money, Number, Price, Quantity};
 
 // Units taken from an offer, at its price.
-#[derive(Clone, Copy)]
+#[derive(Clone, Copy, Debug, PartialEq, Eq)]
 pub struct Fill {
     pub maker: Number,
     pub price: Price,
@@ -31,90 +31,52 @@ fn fill_of(offer: &Eligible, rest: Quantity) -> Fill
     Fill {
         maker: offer.number,
         price: offer.price,
-        quantity: Quantity(rest.0.min(offer.left.0)),
+        quantity: rest.min(offer.left),
     }
 }
 
-// Empties the offers in their order, one fill after another.
-fn write_fills<W: TellsFill + Copy>(
-    offers: &[Eligible],
-    taker: Number,
-    n: Quantity,
-    out: &mut [W],
-    at: usize,
-) -> usize
-    requires places { at + length offers.now ≤ length out.old }
-    requires offers { Pourable offers.now }
-    ensures written { Writes out.old out.new at result (map (W.tells taker.0) (fills offers.now n.0)) }
-    ensures draw { FillsUp offers.now n.0 (fills offers.now n.0) }
-    ensures few { result ≤ at + length offers.now }
-{
-    let mut count = at;
-    let mut rest = n;
-    for o in offers {
-        if rest.0 == 0 {
-            return count;
-        }
-        let fill = fill_of(o, rest);
-        out[count] = W::of_fill(taker, fill);
-        count += 1;
-        rest = Quantity(rest.0 - fill.quantity.0);
-    }
-    count
-}
-
-// Writes the fills that empty ranked offers until `n` units are reached, from the place `at` on; answers the place behind the last.
+// Writes the fills that empty ranked offers until `n` units are reached, over the front of `out`; answers how many.
 pub fn pour<W: TellsFill + Copy>(
     offers: &[Eligible],
     taker: Number,
     n: Quantity,
     out: &mut [W],
-    at: usize,
 ) -> usize
-    requires places { at + length offers.now ≤ length out.old }
+    requires places { length offers.now ≤ length out.old }
     requires offers { Pourable offers.now }
-    ensures written { Writes out.old out.new at result (map (W.tells taker.0) (fills offers.now n.0)) }
+    ensures written { WritesFront out.old out.new result (map (W.tells taker.0) (fills offers.now n.0)) }
     ensures draw { FillsUp offers.now n.0 (fills offers.now n.0) }
-    ensures few { result ≤ at + length offers.now }
+    ensures few { result ≤ length offers.now }
 {
-    write_fills(offers, taker, n, out, at)
-}
-
-// Writes the fills of what was found, if anything was.
-fn pour_found<W: TellsFill + Copy>(
-    offers: &[Eligible],
-    found: Option<(Quantity, Money)>,
-    taker: Number,
-    out: &mut [W],
-    at: usize,
-) -> usize
-    requires places { at + length offers.now ≤ length out.old }
-    requires offers { Pourable offers.now }
-    ensures written { Writes out.old out.new at result (map (W.tells taker.0) (traded offers.now found)) }
-    ensures confirmed { FairConfirmation offers.now found }
-    ensures served { FairTurn offers.now found }
-    ensures few { result ≤ at + length offers.now }
-{
-    match found {
-        Some((size, _)) => pour(offers, taker, size, out, at),
-        None => at,
+    let mut rest = n;
+    for (count, offer) in offers.iter().enumerate() {
+        if rest.0 == 0 {
+            return count;
+        }
+        let fill = fill_of(offer, rest);
+        out[count] = W::of_fill(taker, fill);
+        rest = Quantity(rest.0 - fill.quantity.0);
     }
+    offers.len()
 }
 
-// Carries out a decision on ranked offers: writes its fills from the place `at` on, none where nothing was found; answers the place behind the last.
+// Carries out a decision on ranked offers: writes its fills over the front of `out`, none where nothing was found; answers how many.
+#[tactic(auto, using(crate::proofs::Fairness::fair_confirmation, crate::proofs::Fairness::fair_turn))]
 pub fn execute<W: TellsFill + Copy>(
     offers: &[Eligible],
     found: Option<(Quantity, Money)>,
     taker: Number,
     out: &mut [W],
-    at: usize,
 ) -> usize
-    requires places { at + length offers.now ≤ length out.old }
+    requires places { length offers.now ≤ length out.old }
     requires offers { Pourable offers.now }
-    ensures written { Writes out.old out.new at result (map (W.tells taker.0) (traded offers.now found)) }
+    ensures written { WritesFront out.old out.new result (map (W.tells taker.0) (traded offers.now found)) }
     ensures confirmed { FairConfirmation offers.now found }
     ensures served { FairTurn offers.now found }
-    ensures few { result ≤ at + length offers.now }
+    ensures few { result ≤ length offers.now }
 {
-    pour_found(offers, found, taker, out, at)
+    match found {
+        Some((size, _)) => pour(offers, taker, size, out),
+        None => 0,
+    }
 }

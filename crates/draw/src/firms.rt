@@ -21,48 +21,32 @@ pub trait Answering {
 fn is_from<T: Answering>(answer: &T, request: Number, firm: Firm) -> bool
     ensures { result ≡ (T.to_request answer.now == request.0 && T.of_firm answer.now == firm.0) }
 {
-    answer.request().0 == request.0 && answer.firm().0 == firm.0
+    answer.request() == request && answer.firm() == firm
 }
 
 // Whether the firm is among those that answer the request.
 fn has_firm<T: Answering>(answers: &[T], request: Number, firm: Firm) -> bool
     ensures { result ≡ among firm.0 (firms_of T.of_firm T.to_request request.0 answers.now) }
 {
-    for a in answers {
-        if is_from(a, request, firm) {
-            return true;
-        }
-    }
-    false
+    answers.iter().any(|answer| is_from(answer, request, firm))
 }
 
 // Whether an answer is the last that its firm gives to the request, so that each firm counts once.
 fn is_last<T: Answering>(answer: &T, later: &[T], request: Number) -> bool
     ensures { result ≡ (T.to_request answer.now == request.0 && not (among (T.of_firm answer.now) (firms_of T.of_firm T.to_request request.0 later.now))) }
 {
-    answer.request().0 == request.0 && !has_firm(later, request, answer.firm())
+    answer.request() == request && !has_firm(later, request, answer.firm())
 }
 
-// Counts the last answer of each firm.
-fn count_last<T: Answering>(answers: &[T], request: Number) -> u32
-    requires { length answers.now < 2 ^ 32 }
-    ensures value { result ≡ different (firms_of T.of_firm T.to_request request.0 answers.now) }
-    ensures once { EachOnce (firms_of T.of_firm T.to_request request.0 answers.now) }
-{
-    let mut count: u32 = 0;
-    for i in 0..answers.len() {
-        if is_last(&answers[i], &answers[i + 1..], request) {
-            count += 1;
-        }
-    }
-    count
-}
-
-// How many different firms the answers to a request come from: firms count, and not answers.
+// How many different firms the answers to a request come from: firms count, and not answers, so only the last answer of each firm does.
 pub fn count_firms<T: Answering>(answers: &[T], request: Number) -> FirmCount
     requires { length answers.now < 2 ^ 32 }
     ensures value { result.0 ≡ different (firms_of T.of_firm T.to_request request.0 answers.now) }
     ensures once { EachOnce (firms_of T.of_firm T.to_request request.0 answers.now) }
 {
-    FirmCount(count_last(answers, request))
+    let last = answers.iter().enumerate().filter(|(i, answer)| {
+        let later = &answers[*i + 1..];
+        is_last(*answer, later, request)
+    });
+    FirmCount(last.count() as u32)
 }

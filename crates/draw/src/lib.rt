@@ -16,7 +16,7 @@ pub use decisions::{decide, decide_automatic, total_status};
 pub use examples::worked_examples;
 pub use fills::{Fill, TellsFill, execute, pour};
 pub use firms::{Answering, count_firms};
-pub use offers::{Eligible, Offered, Source, Taker, admit};
+pub use offers::{Eligible, Offered, Taker, admit};
 pub use priced::OfferRanking;
 pub use prices::shown_price;
 pub use rankings::{RequestRanking, TradingRanking};

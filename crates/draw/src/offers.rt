@@ -5,26 +5,20 @@ ghost use Rattle.draw.specs.Offers.{named, admitted, is_eligible};
 use ranked::Named;
 use units::{Firm, Number, Price, Quantity, Side};
 
-// Where an offer stands: in the book, or as an answer to the request of that number.
-#[derive(Clone, Copy)]
-pub enum Source {
-    Book,
-    AnswerTo(Number),
-}
-
 // An offer of the book or a living answer, with what is left of it.
-#[derive(Clone, Copy)]
+#[derive(Clone, Copy, Debug, PartialEq, Eq)]
 pub struct Offered {
     pub number: Number,
     pub firm: Firm,
     pub side: Side,
     pub price: Price,
     pub left: Quantity,
-    pub source: Source,
+    // the request that it answers, none for an offer of the book
+    pub answers_to: Option<Number>,
 }
 
 // The request that draws: its number, its issuer and the side that it is on.
-#[derive(Clone, Copy)]
+#[derive(Clone, Copy, Debug, PartialEq, Eq)]
 pub struct Taker {
     pub number: Number,
     pub firm: Firm,
@@ -32,7 +26,7 @@ pub struct Taker {
 }
 
 // An offer that a request may draw on.
-#[derive(Clone, Copy)]
+#[derive(Clone, Copy, Debug, PartialEq, Eq)]
 pub struct Eligible {
     pub number: Number,
     pub firm: Firm,
@@ -49,15 +43,10 @@ impl Named for Eligible {
 fn is_eligible(taker: Taker, offered: Offered) -> bool
     ensures { result ≡ is_eligible taker offered }
 {
-    let opposite = match (offered.side, taker.side) {
-        (Side::Sell, Side::Buy) | (Side::Buy, Side::Sell) => true,
-        _ => false,
-    };
-    let open = match offered.source {
-        Source::Book => true,
-        Source::AnswerTo(request) => request.0 == taker.number.0,
-    };
-    opposite && open
+    let open = offered
+        .answers_to
+        .is_none_or(|request| request == taker.number);
+    offered.side == taker.side.opposite() && open
 }
 
 // What the request may draw on of an offer: the offer, or nothing.
@@ -67,15 +56,11 @@ pub fn admit(taker: Taker, offered: Offered) -> Option<Eligible>
     if !is_eligible(taker, offered) {
         return None;
     }
-    let is_answer = match offered.source {
-        Source::Book => false,
-        Source::AnswerTo(_) => true,
-    };
     Some(Eligible {
         number: offered.number,
         firm: offered.firm,
         price: offered.price,
         left: offered.left,
-        is_answer,
+        is_answer: offered.answers_to.is_some(),
     })
 }

@@ -1,24 +1,27 @@
 // The rankings of offers: one text for both sides, by what is better to a side.
 ghost use Rattle.std.specs.Prelude.{◌≡◌};
+ghost use Rattle.std.specs.Ordering.{is_lt, is_gt};
 ghost use Rattle.draw.specs.Rankings.{better_price, request_before, trading_before};
 ghost use Rattle.draw.specs.Orders.{request_order, trading_order};
 
 use super::Eligible;
 use ranked::Ranking;
+use std::cmp::Ordering;
 use units::Side;
 
-// Whether the price of `a` is better than that of `b` to who is on `side`.
-fn is_better(side: Side, a: &Eligible, b: &Eligible) -> bool
-    ensures { result ≡ better_price side a.now b.now }
+// How the price of `a` stands to that of `b` for who is on `side`: the better one comes first.
+fn by_price(side: Side, a: &Eligible, b: &Eligible) -> Ordering
+    ensures first { is_lt result ≡ better_price side a.now b.now }
+    ensures behind { is_gt result ≡ better_price side b.now a.now }
 {
     match side {
-        Side::Buy => a.price.0 < b.price.0,
-        Side::Sell => b.price.0 < a.price.0,
+        Side::Buy => a.price.cmp(&b.price),
+        Side::Sell => b.price.cmp(&a.price),
     }
 }
 
 // The order in which a request on `side` draws: the better price, then answers before book offers, then more left, then the lower number.
-#[derive(Clone, Copy)]
+#[derive(Clone, Copy, Debug, PartialEq, Eq)]
 pub struct RequestRanking {
     pub side: Side,
 }
@@ -28,25 +31,18 @@ impl Ranking<Eligible> for RequestRanking {
 
     ghost order = { λ s. request_order s.side };
 
+    #[tactic(auto, using(crate::proofs::Comparing::comparing))]
     fn precedes(&self, a: &Eligible, b: &Eligible) -> bool {
-        if is_better(self.side, a, b) {
-            return true;
-        }
-        if is_better(self.side, b, a) {
-            return false;
-        }
-        if a.is_answer != b.is_answer {
-            return a.is_answer;
-        }
-        if a.left.0 != b.left.0 {
-            return b.left.0 < a.left.0;
-        }
-        a.number.0 < b.number.0
+        by_price(self.side, a, b)
+            .then(b.is_answer.cmp(&a.is_answer))
+            .then(b.left.cmp(&a.left))
+            .then(a.number.cmp(&b.number))
+            .is_lt()
     }
 }
 
 // The order in which an order that enters on `side` trades: the better price, then the lower number.
-#[derive(Clone, Copy)]
+#[derive(Clone, Copy, Debug, PartialEq, Eq)]
 pub struct TradingRanking {
     pub side: Side,
 }
@@ -56,10 +52,9 @@ impl Ranking<Eligible> for TradingRanking {
 
     ghost order = { λ s. trading_order s.side };
 
+    #[tactic(auto, using(crate::proofs::Comparing::comparing))]
     fn precedes(&self, a: &Eligible, b: &Eligible) -> bool {
-        if is_better(self.side, a, b) {
-            return true;
-        }
-        !is_better(self.side, b, a) && a.number.0 < b.number.0
+        let by_number = a.number.cmp(&b.number);
+        by_price(self.side, a, b).then(by_number).is_lt()
     }
 }

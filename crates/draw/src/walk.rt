@@ -1,4 +1,5 @@
 // The walk over ranked offers: size and money of what trades, in one pass.
+// The two stay a tuple, as a rule of the project has it: statuses and confirmations take it apart.
 ghost use Rattle.std.specs.Prelude.{◌≡◌, ◌+◌, ◌-◌, ◌*◌, ◌^◌, ◌<◌, ◌≤◌, min, true};
 ghost use Rattle.std.specs.List.{AllByRecursion};
 ghost use Rattle.units.specs.Ranges.{is_price, is_quantity, is_lot};
@@ -16,8 +17,8 @@ fn no_worse(side: Side, a: Money, b: Money) -> bool
     ensures { result ≡ no_worse side a.0 b.0 }
 {
     match side {
-        Side::Buy => a.0 <= b.0,
-        Side::Sell => b.0 <= a.0,
+        Side::Buy => a <= b,
+        Side::Sell => b <= a,
     }
 }
 
@@ -25,7 +26,8 @@ fn no_worse(side: Side, a: Money, b: Money) -> bool
 fn is_within(side: Side, price: Price, totals: (Quantity, Money)) -> bool
     ensures { result ≡ no_worse side totals.1.0 (price.0 * totals.0.0) }
 {
-    no_worse(side, totals.1, price.times(totals.0))
+    let (size, money) = totals;
+    no_worse(side, money, price.times(size))
 }
 
 // What may still be wanted of an offer.
@@ -33,7 +35,7 @@ fn room(offer: &Eligible, most: Quantity, size: Quantity) -> Quantity
     requires { size.0 ≤ most.0 }
     ensures { result.0 ≡ room most.0 size.0 offer.now }
 {
-    Quantity(offer.left.0.min(most.0 - size.0))
+    offer.left.min(Quantity(most.0 - size.0))
 }
 
 // Size and money with so many units more at that price.
@@ -43,9 +45,10 @@ fn with(totals: (Quantity, Money), price: Price, units: Quantity) -> (Quantity, 
     ensures size { result.0.0 ≡ totals.0.0 + units.0 }
     ensures money { result.1.0 ≡ totals.1.0 + price.0 * units.0 }
 {
+    let (size, money) = totals;
     (
-        Quantity(totals.0.0 + units.0),
-        Money(totals.1.0 + price.times(units).0),
+        Quantity(size.0 + units.0),
+        Money(money.0 + price.times(units).0),
     )
 }
 
@@ -55,7 +58,8 @@ fn part(lot: Lot, limit: Price, totals: (Quantity, Money), price: Price) -> Quan
     requires fits { part lot.0 limit.0 totals.0.0 totals.1.0 price.0 < 2 ^ 32 }
     ensures { result.0 ≡ part lot.0 limit.0 totals.0.0 totals.1.0 price.0 }
 {
-    let saved = totals.1.0.abs_diff(limit.times(totals.0).0);
+    let (size, money) = totals;
+    let saved = money.0.abs_diff(limit.times(size).0);
     let lots = saved / (u64::from(lot.0) * u64::from(price.0.abs_diff(limit.0)));
     Quantity((lots * u64::from(lot.0)) as u32)
 }
@@ -86,7 +90,7 @@ pub(crate) fn walk(
     totals
 }
 
-// The first units of the offers in their order: `most` of them, or all there are.
+// The first units of the offers in their order: `most` of them, or all there are. A loop and not a fold, since its invariant keeps the totals in range.
 pub(crate) fn first_units(offers: &[Eligible], most: Quantity) -> (Quantity, Money)
     requires prices { AllByRecursion (λ o. is_price o.price.0 ≡ true) offers.now }
     requires apart { Apart named offers.now }

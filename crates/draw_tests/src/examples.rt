@@ -11,7 +11,7 @@ use ranked::{Dated, ExpiryRanking, Named, rank};
 use units::{Firm, FirmCount, Lot, Money, Number, Price, Quantity, Side, Time};
 
 // A fill as a report tells it.
-#[derive(Clone, Copy)]
+#[derive(Clone, Copy, Debug, PartialEq, Eq)]
 struct Told {
     taker: u32,
     maker: u32,
@@ -30,8 +30,16 @@ impl TellsFill for Told {
     }
 }
 
+fn report(taker: u32, maker: u32, quantity: u32) -> Told {
+    Told {
+        taker,
+        maker,
+        quantity,
+    }
+}
+
 // An answer with its firm and its request.
-#[derive(Clone, Copy)]
+#[derive(Clone, Copy, Debug, PartialEq, Eq)]
 struct Answer {
     firm: Firm,
     request: Number,
@@ -52,7 +60,7 @@ impl Answering for Answer {
 }
 
 // A request that expires.
-#[derive(Clone, Copy)]
+#[derive(Clone, Copy, Debug, PartialEq, Eq)]
 struct Deadline {
     number: Number,
     at: Time,
@@ -74,37 +82,39 @@ impl Dated for Deadline {
     }
 }
 
-// What a buyer of 5,000 trades on a confirmation, where firm 4 sells 1,000 at 980 in the book, and firms 2 and 3 answer 2,000 at 990 and 5,000 at 1,000.
+// Firm 4 sells 1,000 at 980 in the book, and firms 2 and 3 answer 2,000 at 990 and 5,000 at 1,000.
+const BOOK_AT_980: Eligible = Eligible {
+    number: Number(1),
+    firm: Firm(4),
+    price: Price(980),
+    left: Quantity(1000),
+    is_answer: false,
+};
+
+const ANSWER_AT_990: Eligible = Eligible {
+    number: Number(3),
+    firm: Firm(2),
+    price: Price(990),
+    left: Quantity(2000),
+    is_answer: true,
+};
+
+const ANSWER_AT_1000: Eligible = Eligible {
+    number: Number(4),
+    firm: Firm(3),
+    price: Price(1000),
+    left: Quantity(5000),
+    is_answer: true,
+};
+
+// What a buyer of 5,000 trades on a confirmation, where these three sell.
 fn confirm(price: Price, least: Quantity) -> Option<(Quantity, Money)>
     requires { is_price price.0 ≡ true }
 {
-    let mut offers = [
-        Eligible {
-            number: Number(4),
-            firm: Firm(3),
-            price: Price(1000),
-            left: Quantity(5000),
-            is_answer: true,
-        },
-        Eligible {
-            number: Number(3),
-            firm: Firm(2),
-            price: Price(990),
-            left: Quantity(2000),
-            is_answer: true,
-        },
-        Eligible {
-            number: Number(1),
-            firm: Firm(4),
-            price: Price(980),
-            left: Quantity(1000),
-            is_answer: false,
-        },
-    ];
+    let mut offers = [ANSWER_AT_1000, ANSWER_AT_990, BOOK_AT_980];
     decide(
         &RequestRanking { side: Side::Buy },
         &mut offers,
-        3,
         Lot(10),
         price,
         least,
@@ -135,7 +145,6 @@ fn confirm_selling(price: Price) -> Option<(Quantity, Money)>
     decide(
         &RequestRanking { side: Side::Sell },
         &mut offers,
-        2,
         Lot(10),
         price,
         Quantity(0),
@@ -164,14 +173,13 @@ fn shown_for_three() -> Option<Price> {
     let (size, money) = total_status(
         &RequestRanking { side: Side::Buy },
         &mut offers,
-        2,
         Quantity(3),
     );
     shown_price(size, money)
 }
 
 // At one price, answers of 500 and 700 and a book offer of 1,000 in request ranking; the fourth place is not ranked.
-fn rank_ties() -> [u32; 4] {
+fn rank_ties() -> [Number; 4] {
     let mut offers = [
         Eligible {
             number: Number(1),
@@ -202,130 +210,66 @@ fn rank_ties() -> [u32; 4] {
             is_answer: true,
         },
     ];
-    rank(&RequestRanking { side: Side::Buy }, &mut offers, 3);
-    [
-        offers[0].number.0,
-        offers[1].number.0,
-        offers[2].number.0,
-        offers[3].number.0,
-    ]
+    rank(&RequestRanking { side: Side::Buy }, &mut offers[..3]);
+    offers.map(|o| o.number)
 }
 
-// Size and money; 0 and 0 where nothing trades.
-fn totals(answer: Option<(Quantity, Money)>) -> (u32, u64) {
-    match answer {
-        Some((size, money)) => (size.0, money.0),
-        None => (0, 0),
-    }
+// Size and money of what trades.
+fn trades(size: u32, money: u64) -> Option<(Quantity, Money)> {
+    Some((Quantity(size), Money(money)))
 }
 
 #[test]
 fn confirms_at_a_price(rt: HostRuntime) {
-    assert_eq!(rt; totals(confirm(Price(992), Quantity(0))), (5000, 4_960_000));
-    assert_eq!(rt; totals(confirm(Price(991), Quantity(0))), (4440, 4_400_000));
-    assert_eq!(rt; totals(confirm(Price(980), Quantity(0))), (1000, 980_000));
-    assert_eq!(rt; totals(confirm(Price(979), Quantity(0))), (0, 0));
+    assert_eq!(rt; confirm(Price(992), Quantity(0)), trades(5000, 4_960_000));
+    assert_eq!(rt; confirm(Price(991), Quantity(0)), trades(4440, 4_400_000));
+    assert_eq!(rt; confirm(Price(980), Quantity(0)), trades(1000, 980_000));
+    assert_eq!(rt; confirm(Price(979), Quantity(0)), None);
     assert_eq!(rt;
-        totals(confirm(Price(991), Quantity(4440))),
-        (4440, 4_400_000)
+        confirm(Price(991), Quantity(4440)),
+        trades(4440, 4_400_000)
     );
-    assert_eq!(rt; totals(confirm(Price(991), Quantity(4450))), (0, 0));
-    assert_eq!(rt; totals(confirm_selling(Price(995))), (2000, 1_990_000));
+    assert_eq!(rt; confirm(Price(991), Quantity(4450)), None);
+    assert_eq!(rt; confirm_selling(Price(995)), trades(2000, 1_990_000));
 }
 
 // What request 2 trades at 991, as reports.
 fn trade() -> [Told; 4] {
-    let mut offers = [
-        Eligible {
-            number: Number(4),
-            firm: Firm(3),
-            price: Price(1000),
-            left: Quantity(5000),
-            is_answer: true,
-        },
-        Eligible {
-            number: Number(3),
-            firm: Firm(2),
-            price: Price(990),
-            left: Quantity(2000),
-            is_answer: true,
-        },
-        Eligible {
-            number: Number(1),
-            firm: Firm(4),
-            price: Price(980),
-            left: Quantity(1000),
-            is_answer: false,
-        },
-    ];
-    let mut out = [Told {
-        taker: 0,
-        maker: 0,
-        quantity: 0,
-    }; 4];
+    let mut offers = [ANSWER_AT_1000, ANSWER_AT_990, BOOK_AT_980];
+    let mut out = [report(0, 0, 0); 4];
     let found = decide(
         &RequestRanking { side: Side::Buy },
         &mut offers,
-        3,
         Lot(10),
         Price(991),
         Quantity(0),
         Quantity(5000),
     );
-    let _ = execute(&offers[..3], found, Number(2), &mut out, 0);
+    let _ = execute(&offers, found, Number(2), &mut out);
     out
 }
 
 #[test]
 fn carries_out_a_decision(rt: HostRuntime) {
-    let out = trade();
     assert_eq!(rt;
-        [out[0].maker, out[1].maker, out[2].maker, out[3].maker],
-        [1, 3, 4, 0]
-    );
-    assert_eq!(rt;
+        trade(),
         [
-            out[0].quantity,
-            out[1].quantity,
-            out[2].quantity,
-            out[3].quantity,
-        ],
-        [1000, 2000, 1440, 0]
+            report(2, 1, 1000),
+            report(2, 3, 2000),
+            report(2, 4, 1440),
+            report(0, 0, 0),
+        ]
     );
-    assert_eq!(rt; [out[0].taker, out[2].taker, out[3].taker], [2, 2, 0]);
 }
 
 // What a turn of an automatic request for 5,000 trades, where answers come from two firms.
 fn turn(limit: Price, least: FirmCount) -> Option<(Quantity, Money)>
     requires { is_price limit.0 ≡ true }
 {
-    let mut offers = [
-        Eligible {
-            number: Number(1),
-            firm: Firm(4),
-            price: Price(980),
-            left: Quantity(1000),
-            is_answer: false,
-        },
-        Eligible {
-            number: Number(3),
-            firm: Firm(2),
-            price: Price(990),
-            left: Quantity(2000),
-            is_answer: true,
-        },
-        Eligible {
-            number: Number(4),
-            firm: Firm(3),
-            price: Price(1000),
-            left: Quantity(5000),
-            is_answer: true,
-        },
-    ];
+    let mut offers = [BOOK_AT_980, ANSWER_AT_990, ANSWER_AT_1000];
     decide_automatic(
         &RequestRanking { side: Side::Buy },
         &mut offers,
-        3,
         Lot(10),
         limit,
         Quantity(5000),
@@ -336,19 +280,19 @@ fn turn(limit: Price, least: FirmCount) -> Option<(Quantity, Money)>
 
 #[test]
 fn serves_an_automatic_request(rt: HostRuntime) {
-    assert_eq!(rt; totals(turn(Price(992), FirmCount(2))), (5000, 4_960_000));
-    assert_eq!(rt; totals(turn(Price(991), FirmCount(2))), (0, 0));
-    assert_eq!(rt; totals(turn(Price(992), FirmCount(3))), (0, 0));
+    assert_eq!(rt; turn(Price(992), FirmCount(2)), trades(5000, 4_960_000));
+    assert_eq!(rt; turn(Price(991), FirmCount(2)), None);
+    assert_eq!(rt; turn(Price(992), FirmCount(3)), None);
 }
 
 #[test]
 fn shows_a_rounded_price(rt: HostRuntime) {
-    assert!(rt; matches!(shown_for_three(), Some(Price(1))));
+    assert_eq!(rt; shown_for_three(), Some(Price(1)));
 }
 
 #[test]
 fn ranks_ties(rt: HostRuntime) {
-    assert_eq!(rt; rank_ties(), [4, 3, 1, 5]);
+    assert_eq!(rt; rank_ties(), [Number(4), Number(3), Number(1), Number(5)]);
 }
 
 #[test]
@@ -367,64 +311,31 @@ fn ranks_deadlines(rt: HostRuntime) {
             at: Time(5000),
         },
     ];
-    rank(&ExpiryRanking, &mut deadlines, 3);
+    rank(&ExpiryRanking, &mut deadlines);
     assert_eq!(rt;
-        [
-            deadlines[0].number.0,
-            deadlines[1].number.0,
-            deadlines[2].number.0,
-        ],
-        [9, 2, 7]
+        deadlines.map(|d| d.number),
+        [Number(9), Number(2), Number(7)]
     );
 }
 
 #[test]
 fn pours_in_order(rt: HostRuntime) {
-    let offers = [
-        Eligible {
-            number: Number(1),
-            firm: Firm(4),
-            price: Price(980),
-            left: Quantity(1000),
-            is_answer: false,
-        },
-        Eligible {
-            number: Number(3),
-            firm: Firm(2),
-            price: Price(990),
-            left: Quantity(2000),
-            is_answer: true,
-        },
-        Eligible {
-            number: Number(4),
-            firm: Firm(3),
-            price: Price(1000),
-            left: Quantity(5000),
-            is_answer: true,
-        },
-    ];
-    let mut out = [Told {
-        taker: 9,
-        maker: 9,
-        quantity: 9,
-    }; 5];
-    let end = pour(&offers, Number(2), Quantity(1500), &mut out, 1);
-    assert_eq!(rt; end, 3);
+    let offers = [BOOK_AT_980, ANSWER_AT_990, ANSWER_AT_1000];
+    let mut out = [report(9, 9, 9); 5];
+    let count = pour(&offers, Number(2), Quantity(1500), &mut out[1..]);
+    assert_eq!(rt; count, 2);
     assert_eq!(rt;
-        [out[0].maker, out[1].maker, out[2].maker, out[3].maker],
-        [9, 1, 3, 9]
-    );
-    assert_eq!(rt;
+        out,
         [
-            out[0].quantity,
-            out[1].quantity,
-            out[2].quantity,
-            out[3].quantity,
-        ],
-        [9, 1000, 500, 9]
+            report(9, 9, 9),
+            report(2, 1, 1000),
+            report(2, 3, 500),
+            report(9, 9, 9),
+            report(9, 9, 9),
+        ]
     );
-    assert_eq!(rt; share(&offers, Quantity(1500), Number(3)).0, 500);
-    assert_eq!(rt; share(&offers, Quantity(1500), Number(4)).0, 0);
+    assert_eq!(rt; share(&offers, Quantity(1500), Number(3)), Quantity(500));
+    assert_eq!(rt; share(&offers, Quantity(1500), Number(4)), Quantity(0));
 }
 
 #[test]
@@ -447,5 +358,5 @@ fn counts_firms_and_not_answers(rt: HostRuntime) {
             request: Number(7),
         },
     ];
-    assert_eq!(rt; count_firms(&answers, Number(2)).0, 2);
+    assert_eq!(rt; count_firms(&answers, Number(2)), FirmCount(2));
 }

@@ -1,10 +1,8 @@
 -- Writing to a list that the caller lends.
-use Rattle.std.specs.Prelude.{◌≡◌, ℕ, ◌+◌, ◌≤◌, List, ◌++◌, length, take, drop}
+use Rattle.std.specs.Prelude.{◌≡◌, ℕ, ◌≤◌, List, ◌++◌, length, drop}
 
--- new is old with xs from the place a up to the place n; in front of a and from n on it is untouched
-pub record Writes {X : Type 0} (old new : List X) (a n : ℕ) (xs : List X) : Type 0 where
-  pub front : take n new ≡ take a old ++ xs
-  pub behind : drop n new ≡ drop n old
-  pub count : n ≡ a + length xs
-  pub long : length new ≡ length old
+-- new is old with xs over its first n places; from n on it is untouched
+pub record WritesFront {X : Type 0} (old new : List X) (n : ℕ) (xs : List X) : Type 0 where
+  pub items : new ≡ xs ++ drop n old
+  pub count : n ≡ length xs
   pub within : n ≤ length old

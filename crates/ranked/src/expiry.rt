@@ -27,7 +27,7 @@ impl<T: Dated> Ranking<T> for ExpiryRanking {
     ghost order = { Prim.search rules };
 
     fn precedes(&self, a: &T, b: &T) -> bool {
-        let (first, second) = (a.deadline().0, b.deadline().0);
-        first < second || (first == second && a.name().0 < b.name().0)
+        let (first, second) = (a.deadline(), b.deadline());
+        first < second || (first == second && a.name() < b.name())
     }
 }

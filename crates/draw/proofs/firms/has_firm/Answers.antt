@@ -1,16 +1,11 @@
-use Rattle.std.proofs.Common.{true, false, sym, ◌∙◌}
-use Rattle.draw.proofs.Counting.{among_more, among_end}
+use Rattle.std.proofs.Common.{◌&&◌, eqb, sym, ◌∙◌, rules, tests}
+use Rattle.std.proofs.lemmas.Iterator.{YieldsList-from_slice}
+use Rattle.std.proofs.lemmas.Iterator.Search.{any_from_yields_List}
+use Rattle.draw.proofs.Counting.{among_any}
 use Rattle.draw.proofs.firms.has_firm.Goals as goal
 
-pub returns-then-is_from : goal.returns-then-is_from
-returns-then-is_from g c =
-    sym (among_more g.T.Answering.of_firm g.T.Answering.to_request c.args.request.0 c.args.answers.now c.loop-a.a-index c.a-item.result c.loop-a-test.true c.a-item.is c.args.firm.0 true c.if-is_from.ensures)
-    ∙ c.loop-a.invariant
-
-pub loop-a-preserved : goal.loop-a-preserved
-loop-a-preserved g c =
-    sym (among_more g.T.Answering.of_firm g.T.Answering.to_request c.args.request.0 c.args.answers.now c.loop-a.a-index c.a-item.result c.loop-a-test.true c.a-item.is c.args.firm.0 false c.if-is_from.ensures)
-    ∙ c.loop-a.invariant
-
 pub returns : goal.returns
-returns g c = sym (sym c.loop-a.invariant ∙ among_end g.T.Answering.of_firm g.T.Answering.to_request c.args.request.0 c.args.firm.0 c.args.answers.now c.loop-a.a-index c.loop-a-test.false)
+returns g c =
+    any_from_yields_List (λ x. eqb (g.T.Answering.to_request x) c.args.request.0 && eqb (g.T.Answering.of_firm x) c.args.firm.0) _ _ _ c.any.ensures.ran
+    (YieldsList-from_slice c.args.answers.now c.iter.ensures.rest) (λ x b q k. search (rules, tests))
+    ∙ sym (among_any g.T.Answering.of_firm g.T.Answering.to_request c.args.request.0 c.args.firm.0 c.args.answers.now)

@@ -4,14 +4,6 @@ use Rattle.draw.proofs.Sides.{test_true}
 use Rattle.draw.proofs.Steps.{nothing, walk_end, turn_more, turn_stop, turn_part, grown}
 use Rattle.draw.proofs.walk.walk.Goals as goal
 
-pub with-all-requires : goal.with-all-requires
-with-all-requires c =
-    let o = get_or c.args.offers.now c.loop-o.o-index nothing in
-    let h = price_at _ c.args.offers.now c.loop-o.o-index nothing c.loop-o-test.true c.requires.offers in
-    let b = quantity_bounds c.args.lot.0 c.args.most.0 c.requires.most in
-    let g = grown o.price.0 c.room.result.0 c.loop-o.totals.0.0 c.loop-o.totals.1.0 c.args.most.0 h (omega arith) (omega arith) c.loop-o.invariant.2 in
-    record { size = omega arith; money = omega arith }
-
 pub part-requires : goal.part-requires
 part-requires c =
     let b = quantity_bounds c.args.lot.0 c.args.most.0 c.requires.most in

@@ -1,5 +1,0 @@
-use Rattle.draw.proofs.Marks.{worked}
-use Rattle.draw.proofs.examples.examples_hold.Goals as goal
-
-pub returns : goal.returns
-returns c = worked
