@@ -1,15 +1,15 @@
 -- A take is one fill, a removal one kill.
-use Rattle.std.proofs.Common.{◌≡◌, ℕ, ◌-◌, ◌<◌, ◌≤◌, Bool, true, false, cond, eqb, List, [], ◌∷◌, sym, refl, ap, ◌∙◌, ap₂, arith}
+use Rattle.std.proofs.Common.{◌≡◌, ℕ, ◌<◌, ◌≤◌, cond, eqb, List, [], ◌∷◌, sym, refl, ◌∙◌, arith}
 use Rattle.std.specs.List.{AllByRecursion}
 use Rattle.std.proofs.ByRecursion.{All-weaker}
-use Rattle.std.proofs.lemmas.Bool.{cond-true, cond-false, eq-eqb, ne_eqb, eqb-true, eqb-false, lt-ltb, le-ltb}
+use Rattle.std.proofs.lemmas.Bool.Decides.{nat_tests}
 use Rattle.book.specs.declared.Offer.{Offer}
 use Rattle.book.specs.Meaning.{left_of, taken, without}
 use Rattle.draw.specs.declared.fills.Fill.{Fill}
 use Rattle.rules.specs.declared.reports.KillReason.{KillReason}
 use Rattle.rules.specs.declared.reports.Report.{Report}
 use Rattle.rules.specs.State.{an_offer}
-use Rattle.rules.specs.Reports.{remain, rest, filled_by, kill, filled, killed}
+use Rattle.rules.specs.Reports.{remain, filled_by, kill, filled, killed}
 use Rattle.rules.specs.Takes.{Listed, Without, BookDoes}
 use Rattle.rules.proofs.Left.{touched, remain_remain, remain_same}
 use Rattle.rules.proofs.Fine.{offer_laws}
@@ -17,7 +17,7 @@ use Rattle.rules.proofs.Fine.{offer_laws}
 -- what one fill, or one kill, takes
 one_fill : (t : ℕ) (f : Fill) (k : ℕ) → (t ≡ k → ⊥) → touched (filled_by t f ∷ []) k ≡ cond (eqb f.maker.0 k) f.quantity.0 0
 unfolding filled killed
-one_fill t f k ne = let z = cond-false (eqb t k) f.quantity.0 0 (ne_eqb t k ne) in omega arith
+one_fill t f k ne = grind (arith, nat_tests)
 
 one_kill : (reason : KillReason) (n a k : ℕ) → touched (kill reason n a ∷ []) k ≡ cond (eqb n k) a 0
 unfolding filled killed
@@ -38,49 +38,22 @@ module _ (rs : List Report) (n a : ℕ) where
 
   others : (os : List Offer) → AllByRecursion (λ (x : Offer). x.number.0 ≡ n → ⊥) os → Takes os → AllByRecursion (λ (x : Offer). touched rs x.number.0 ≡ 0) os
   others [] ne t = tt
-  others (o ∷ os) ne t = (t.0 ∙ cond-false _ _ _ (ne_eqb n o.number.0 (λ e. ne.0 (sym e))), others os ne.1 t.1)
+  others (o ∷ os) ne t = ((let z = t.0 in let d = ne.0 in grind (arith, nat_tests)), others os ne.1 t.1)
 
   remain_taken : (os : List Offer) → Listed os → Takes os → a ≤ left_of os n → taken os n a ≡ remain an_offer rs os
   unfolding remain
   remain_taken [] w t h = refl
-  remain_taken (o ∷ os) w t h = go (eqb o.number.0 n) refl h (remain_taken os w.2 t.1)
-    where
-      go : (b : Bool) → eqb o.number.0 n ≡ b → a ≤ cond b o.left.0 (left_of os n) → (a ≤ left_of os n → taken os n a ≡ remain an_offer rs os) →
-          cond b (cond (eqb o.left.0 a) os (an_offer.with_left o (o.left.0 - a) ∷ os)) (o ∷ taken os n a) ≡ remain an_offer rs (o ∷ os)
-      go true e h ih = first (eqb o.left.0 a) refl
-        where
-          is : o.number.0 ≡ n
-          is = eqb-true _ n e
-
-          mine : touched rs o.number.0 ≡ a
-          mine = t.0 ∙ cond-true _ _ _ (eq-eqb n o.number.0 (sym is))
-
-          tail : remain an_offer rs os ≡ os
-          tail = untouched rs os w.2 (others os (All-weaker _ _ (λ x ne f. ne (f ∙ sym is)) os w.0) t.1)
-
-          first : (c : Bool) → eqb o.left.0 a ≡ c → cond c os (an_offer.with_left o (o.left.0 - a) ∷ os) ≡ remain an_offer rs (o ∷ os)
-          first true f = let z = eqb-true o.left.0 a f in sym tail ∙ sym (cond-false _ _ _ (le-ltb 0 (rest an_offer rs o) (omega (arith, mine))))
-          first false f =
-              let z = eqb-false o.left.0 a f in
-              ap₂ (λ (m : ℕ) (xs : List Offer). an_offer.with_left o m ∷ xs) (ap (λ (m : ℕ). o.left.0 - m) (sym mine)) (sym tail)
-              ∙ sym (cond-true _ _ _ (lt-ltb 0 (rest an_offer rs o) (more z)))
-            where
-              more : (o.left.0 ≡ a → ⊥) → 0 < rest an_offer rs o
-              more z = omega (arith, mine)
-      go false e h ih =
-          let ne = eqb-false o.number.0 n e in
-          let z : touched rs o.number.0 ≡ 0 = t.0 ∙ cond-false _ _ _ (ne_eqb n o.number.0 (λ f. ne (sym f))) in
-          let q : rest an_offer rs o ≡ o.left.0 = omega arith in
-          ap₂ (λ (x : Offer) (xs : List Offer). x ∷ xs) (ap (an_offer.with_left o) (sym q)) (ih h) ∙ sym (cond-true _ _ _ (lt-ltb 0 (rest an_offer rs o) (let p = w.1 in omega arith)))
+  remain_taken (o ∷ os) w t h =
+      let i = remain_taken os w.2 t.1 in
+      let l = w.1 in
+      let z = t.0 in
+      let tail : o.number.0 ≡ n → remain an_offer rs os ≡ os = λ e. untouched rs os w.2 (others os (All-weaker _ _ (λ x d f. d (f ∙ sym e)) os w.0) t.1) in
+      let whole : an_offer.with_left o o.left.0 ≡ o = refl in
+      grind (arith, nat_tests)
 
 without_taken : (os : List Offer) (n : ℕ) → without os n ≡ taken os n (left_of os n)
 without_taken [] n = refl
-without_taken (o ∷ os) n = go (eqb o.number.0 n) (without_taken os n)
-  where
-    go : (b : Bool) → without os n ≡ taken os n (left_of os n) →
-        cond b os (o ∷ without os n) ≡ cond b (cond (eqb o.left.0 (cond b o.left.0 (left_of os n))) os (an_offer.with_left o (o.left.0 - cond b o.left.0 (left_of os n)) ∷ os)) (o ∷ taken os n (cond b o.left.0 (left_of os n)))
-    go true h = sym (cond-true _ _ _ (eq-eqb o.left.0 o.left.0 refl))
-    go false h = ap (λ (xs : List Offer). o ∷ xs) h
+without_taken (o ∷ os) n = let h = without_taken os n in grind (arith, nat_tests)
 
 fill_takes : (os : List Offer) (t : ℕ) (f : Fill) → Without os t → Takes (filled_by t f ∷ []) f.maker.0 f.quantity.0 os
 fill_takes os t f ne = All-weaker _ _ (λ x h. one_fill t f x.number.0 (λ e. h (sym e))) os ne

@@ -1,10 +1,13 @@
 -- The fills of a request are what the rules name.
-use Rattle.std.proofs.Common.{◌≡◌, ℕ, ◌+◌, ◌%◌, ◌<◌, ◌≤◌, Bool, true, false, cond, eqb, leb, List, [], ◌∷◌, ◌++◌, map, Some, None, filter, Option, sym, refl, ap, ◌∙◌, subst, arith}
+use Rattle.std.proofs.Common.{◌≡◌, ℕ, ◌+◌, ◌%◌, ◌<◌, ◌≤◌, Bool, cond, not, eqb, leb, List, [], ◌∷◌, ◌++◌, map, sum_by, Some, None, filter, Option, sym, refl, ap, ◌∙◌, subst, arith}
 use native.Mathlib.Nat.{zero-mod}
 use Rattle.std.specs.List.{AllByRecursion}
-use Rattle.std.proofs.lemmas.List.Sums.{sum_by-cons}
+use Rattle.std.proofs.lemmas.List.Sums.{sum_by-cons, sum_by-append}
+use Rattle.std.proofs.lemmas.List.Folds.{fold-map}
+use Rattle.std.proofs.lemmas.List.Filters.{sum_by-filter_both}
 use Rattle.std.proofs.ByRecursion.{All-weaker, All-append, all_kept_by, All-map, all_shuffled}
-use Rattle.std.proofs.lemmas.Bool.{leb-true, leb-false}
+use Rattle.std.proofs.lemmas.Bool.Decides.{nat_tests}
+use Rattle.std.proofs.lemmas.Bool.{leb-true, leb-false, cond_both}
 use Rattle.units.specs.declared.Quantity.{Quantity}
 use Rattle.units.specs.declared.Money.{Money}
 use Rattle.units.specs.declared.side.Side.{Side}
@@ -21,15 +24,17 @@ use Rattle.draw.proofs.Sides.{whole_add}
 use Rattle.draw.specs.Orders.{request_order, request_better}
 use Rattle.draw.proofs.Finds as finds
 use Rattle.draw.proofs.Pouring.{taken_is, fills_none}
+use Rattle.book.specs.declared.Offer.{Offer}
+use Rattle.rules.specs.declared.records.Answer.{Answer}
 use Rattle.rules.specs.declared.records.Request.{Request}
-use Rattle.rules.specs.State.{Kept, an_offer, an_answer, State}
+use Rattle.rules.specs.State.{an_offer, an_answer, State}
 use Rattle.rules.specs.Reports.{pour, filled_by}
 use Rattle.rules.specs.Offers.{offered, taker_of, from_book, from_answer, request_ranking, firms}
 use Rattle.rules.specs.Step.{on_offer, ranked_for, trade, decision_at, decision_in_turn}
 use Rattle.rules.specs.History.{came_as}
 use Rattle.rules.specs.Law.{TradesFairly}
-use Rattle.rules.proofs.Left.{touched, count, count_append, came_append}
-use Rattle.rules.proofs.Pours.{an_eligible, came_kept, count_kept, count_sum, came_map, count_map, came_shuffled, taken_below, touched_fills, fills_units, fills_whole_lots, Whole, units}
+use Rattle.rules.proofs.Left.{touched}
+use Rattle.rules.proofs.Pours.{an_eligible, came_sum, count_sum, came_shuffled, taken_below, touched_fills, fills_units, fills_whole_lots, Whole}
 use Rattle.rules.proofs.Fine.{Sound}
 
 -- ── from a decision to fair fills ──
@@ -94,9 +99,6 @@ decided_fits d lot price least most os (Some r) h =
 
 -- ── what a request may draw on ──
 
-an_offered : Kept Offered
-an_offered = record { number = λ o. o.number.0; left = λ o. o.left.0; with_left = λ o n. record { number = o.number; firm = o.firm; side = o.side; price = o.price; left = record { 0 = n }; source = o.source } }
-
 pub trade_is : (s : State) (r : Request) (d : Side) (x : Option (Quantity × Money)) → trade s r d x ≡ pour r.number.0 (ranked_for s r d) (units_of x)
 trade_is s r d x = ap (map (filled_by r.number.0)) (traded_units (ranked_for s r d) x)
 
@@ -107,41 +109,37 @@ module _ (s : State) (r : Request) (d : Side) where
   abbrev all : List Offered
   all = offered s.book.buys s.book.sells s.answers
 
-  came_on : (k : ℕ) → came_as an_eligible on k ≤ came_as an_offer s.book.buys k + came_as an_offer s.book.sells k + came_as an_answer s.answers k
-  unfolding an_offered
-  came_on k =
-      let a = came_append an_offered (map (from_book Buy) s.book.buys) (map (from_book Sell) s.book.sells ++ map from_answer s.answers) k in
-      let b = came_append an_offered (map (from_book Sell) s.book.sells) (map from_answer s.answers) k in
-      let x = came_map an_offer an_offered (from_book Buy) (λ x. refl) (λ x. refl) s.book.buys k in
-      let y = came_map an_offer an_offered (from_book Sell) (λ x. refl) (λ x. refl) s.book.sells k in
-      let z = came_map an_answer an_offered from_answer (λ x. refl) (λ x. refl) s.answers k in
-      let c = came_kept an_offered (is_eligible (taker_of r d)) all k in
-      let e = came_map an_offered an_eligible as_eligible (λ x. refl) (λ x. refl) (filter (is_eligible (taker_of r d)) all) k in
+  abbrev taken_up : Offered → Bool
+  taken_up = is_eligible (taker_of r d)
+
+  -- what is told of all that is offered by number and what is left: a sum of it, and what holds of each
+  sum_on : (h : ℕ → ℕ → ℕ) → sum_by (λ (o : Eligible). h o.number.0 o.left.0) on
+      ≤ sum_by (λ (o : Offer). h o.number.0 o.left.0) s.book.buys + sum_by (λ (o : Offer). h o.number.0 o.left.0) s.book.sells + sum_by (λ (a : Answer). h a.number.0 a.left.0) s.answers
+  sum_on h =
+      let F : Offered → ℕ = λ o. h o.number.0 o.left.0 in
+      let e = fold-map (λ (n : ℕ) (o : Eligible). n + h o.number.0 o.left.0) as_eligible 0 (filter taken_up all) in
+      let c = sum_by-filter_both taken_up (λ o. not (taken_up o)) (λ o. refl) F all in
+      let a = sum_by-append F (map (from_book Buy) s.book.buys) (map (from_book Sell) s.book.sells ++ map from_answer s.answers) in
+      let b = sum_by-append F (map (from_book Sell) s.book.sells) (map from_answer s.answers) in
+      let x = fold-map (λ n o. n + F o) (from_book Buy) 0 s.book.buys in
+      let y = fold-map (λ n o. n + F o) (from_book Sell) 0 s.book.sells in
+      let z = fold-map (λ n o. n + F o) from_answer 0 s.answers in
       omega arith
 
-  count_on : (k : ℕ) → count an_eligible on k ≤ count an_offer s.book.buys k + count an_offer s.book.sells k + count an_answer s.answers k
-  unfolding an_offered
-  count_on k =
-      let a = count_append an_offered (map (from_book Buy) s.book.buys) (map (from_book Sell) s.book.sells ++ map from_answer s.answers) k in
-      let b = count_append an_offered (map (from_book Sell) s.book.sells) (map from_answer s.answers) k in
-      let x = count_map an_offer an_offered (from_book Buy) (λ x. refl) (λ x. refl) s.book.buys k in
-      let y = count_map an_offer an_offered (from_book Sell) (λ x. refl) (λ x. refl) s.book.sells k in
-      let z = count_map an_answer an_offered from_answer (λ x. refl) (λ x. refl) s.answers k in
-      let c = count_kept an_offered (is_eligible (taker_of r d)) all k in
-      let e = count_map an_offered an_eligible as_eligible (λ x. refl) (λ x. refl) (filter (is_eligible (taker_of r d)) all) k in
-      omega arith
+  pub each_on : (P : Eligible → Type 0) → AllByRecursion (λ o. P (as_eligible (from_book Buy o))) s.book.buys → AllByRecursion (λ o. P (as_eligible (from_book Sell o))) s.book.sells →
+      AllByRecursion (λ a. P (as_eligible (from_answer a))) s.answers → AllByRecursion P on
+  each_on P b c a =
+      All-map P as_eligible (filter taken_up all) (all_kept_by taken_up _ all
+      (All-append _ (map (from_book Buy) s.book.buys) _ (All-map _ (from_book Buy) s.book.buys b)
+      (All-append _ (map (from_book Sell) s.book.sells) _ (All-map _ (from_book Sell) s.book.sells c) (All-map _ from_answer s.answers a))))
 
   module _ (g : Sound s) where
     on_whole : AllByRecursion (λ o. o.left.0 % s.book.lot ≡ 0) on
-    on_whole =
-        All-map _ as_eligible (filter (is_eligible (taker_of r d)) all) (all_kept_by _ _ all
-        (All-append _ (map (from_book Buy) s.book.buys) _ (All-map _ (from_book Buy) s.book.buys (All-weaker _ _ (λ x h. h.1) s.book.buys g.buys))
-        (All-append _ (map (from_book Sell) s.book.sells) _ (All-map _ (from_book Sell) s.book.sells (All-weaker _ _ (λ x h. h.1) s.book.sells g.sells))
-        (All-map _ from_answer s.answers (All-weaker _ _ (λ x h. h.1) s.answers g.answers)))))
+    on_whole = each_on (λ o. o.left.0 % s.book.lot ≡ 0) (All-weaker _ _ (λ x h. h.1) s.book.buys g.buys) (All-weaker _ _ (λ x h. h.1) s.book.sells g.sells) (All-weaker _ _ (λ x h. h.1) s.answers g.answers)
 
     pub priced : finds.Priced d (request_before d) on
     priced = record {
-      apart = λ k. (let a = count_sum an_eligible on k in let b = count_on k in let c = g.apart k in omega arith);
+      apart = λ k. (let o = sum_on (λ n l. cond (eqb n k) 1 0) in let c = g.apart k in grind (arith, count_sum));
       order = request_order d;
       better_is_first = request_better d;
     }
@@ -162,15 +160,14 @@ module _ (s : State) (r : Request) (d : Side) where
       GoodHere = GoodAutomatic d s.book.lot limit r.left.0 least (firms r.number.0 s.answers) on
 
       pub decides_in_turn : Decides d (request_before d) on GoodHere (decision_in_turn s r d limit least)
-      decides_in_turn = go (leb least (firms r.number.0 s.answers)) refl
-        where
-          go : (b : Bool) → leb least (firms r.number.0 s.answers) ≡ b → Decides d (request_before d) on GoodHere (cond b (decision_at s r d limit r.left.0) None)
-          go true e =
-              finds.decides_alike d (request_before d) on _ GoodHere
-              (λ x h. finds.good_automatic d s.book.lot limit r.left.0 least _ on x (leb-true _ _ e) h)
-              (λ x h. finds.automatic_good d s.book.lot limit r.left.0 least _ on x h some)
-              (decision_at s r d limit r.left.0) (decides w limit r.left.0)
-          go false e = λ x h. (let k = leb-false least _ e in let f = h.enough in omega arith)
+      decides_in_turn =
+          cond_both (leb least (firms r.number.0 s.answers)) (decision_at s r d limit r.left.0) None (λ x. Decides d (request_before d) on GoodHere x)
+          (λ e.
+          finds.decides_alike d (request_before d) on _ GoodHere
+          (λ x h. finds.good_automatic d s.book.lot limit r.left.0 least _ on x (leb-true _ _ e) h)
+          (λ x h. finds.automatic_good d s.book.lot limit r.left.0 least _ on x h some)
+          (decision_at s r d limit r.left.0) (decides w limit r.left.0))
+          (λ e x h. (let k = leb-false least _ e in let f = h.enough in omega arith))
 
       pub fair_in_turn : TradesFairly d on GoodHere (traded (ranked_for s r d) (decision_in_turn s r d limit least))
       fair_in_turn = fair_decided d on GoodHere (decision_in_turn s r d limit least) apart (λ x h. (let q = h.exact in omega arith)) decides_in_turn
@@ -180,11 +177,9 @@ module _ (s : State) (r : Request) (d : Side) where
     fits_at w price least = decided_fits d s.book.lot price least r.left.0 on (decision_at s r d price least) (decides w price least)
 
     pub fits_in_turn : r.left.0 % s.book.lot ≡ 0 → (limit least : ℕ) → (units_of (decision_in_turn s r d limit least) ≤ r.left.0) × (units_of (decision_in_turn s r d limit least) % s.book.lot ≡ 0)
-    fits_in_turn w limit least = go (leb least (firms r.number.0 s.answers))
-      where
-        go : (b : Bool) → (units_of (cond b (decision_at s r d limit r.left.0) None) ≤ r.left.0) × (units_of (cond b (decision_at s r d limit r.left.0) None) % s.book.lot ≡ 0)
-        go true = fits_at w limit r.left.0
-        go false = (omega arith, zero-mod s.book.lot)
+    fits_in_turn w limit least =
+        cond_both (leb least (firms r.number.0 s.answers)) (decision_at s r d limit r.left.0) None (λ x. (units_of x ≤ r.left.0) × (units_of x % s.book.lot ≡ 0))
+        (λ _. fits_at w limit r.left.0) (λ _. (omega arith, zero-mod s.book.lot))
 
     -- fills of no more than n units take no more than is there, given that the taker has n
     module _ (n : ℕ) (w : n % s.book.lot ≡ 0) where
@@ -194,13 +189,8 @@ module _ (s : State) (r : Request) (d : Side) where
           let b = taken_below (ranked_for s r d) n k in
           let u = fills_units (ranked_for s r d) n in
           let c = came_shuffled an_eligible on (ranked_for s r d) (ranked_shuffled (request_before d) on) k in
-          let o = came_on k in
-          let m = pick (eqb r.number.0 k) (units (fills (ranked_for s r d) n)) (omega arith) in
-          omega arith
-        where
-          pick : (b : Bool) (x : ℕ) → x ≤ n → cond b x 0 ≤ cond b n 0
-          pick true x h = h
-          pick false x h = omega arith
+          let o = sum_on (λ m l. cond (eqb m k) l 0) in
+          grind (arith, nat_tests, came_sum)
 
       pub traded_whole : Whole s.book.lot (pour r.number.0 (ranked_for s r d) n)
       traded_whole = fills_whole_lots s.book.lot r.number.0 (ranked_for s r d) n w (all_shuffled _ on (ranked_for s r d) (ranked_shuffled (request_before d) on) on_whole)

@@ -1,11 +1,12 @@
 -- States in order, and reports that take no more than is there, in whole lots.
-use Rattle.std.proofs.Common.{◌≡◌, ℕ, ◌+◌, ◌%◌, ◌<◌, ◌≤◌, eqb, ◌⊎◌, List, [], ◌∷◌, ◌++◌, refl, inl, inr, arith}
+use Rattle.std.proofs.Common.{◌≡◌, ℕ, ◌+◌, ◌%◌, ◌<◌, ◌≤◌, eqb, List, [], ◌∷◌, ◌++◌, refl, arith}
 use Rattle.std.specs.List.{AllByRecursion}
 use Rattle.std.proofs.ByRecursion.{All-append, all_kept_by, all_shuffled}
-use Rattle.std.proofs.lemmas.Bool.{cases_eq}
+use Rattle.units.specs.declared.side.Side.{Side}
+use Rattle.units.specs.declared.side.Side.TheVariants.{Buy, Sell}
 use Rattle.ranked.proofs.Placing.{ranked_shuffled}
 use Rattle.ranked.specs.Orders.{lower}
-use Rattle.draw.proofs.Sides.{whole_sub}
+use Rattle.book.specs.Meaning.{side_of}
 use Rattle.rules.specs.declared.records.Answer.{Answer}
 use Rattle.rules.specs.declared.records.Request.{Request}
 use Rattle.rules.specs.declared.reports.Report.{Report}
@@ -45,6 +46,11 @@ pub record Sound (s : State) : Type 0 where
   pub answers : Lots an_answer s.book.lot s.answers
   pub requests : Lots a_request s.book.lot s.requests
 
+-- the offers of a side
+pub side_lots : (s : State) → Sound s → (d : Side) → Lots an_offer s.book.lot (side_of s.book d)
+side_lots s g Buy = g.buys
+side_lots s g Sell = g.sells
+
 -- of every number the reports take at most what is open, and whole lots
 pub record Fine (s : State) (rs : List Report) : Type 0 where
   pub within : (n : ℕ) → touched rs n ≤ open_now s n
@@ -57,11 +63,7 @@ fine_none s = record { within = λ n. omega arith; whole = tt }
 module _ (s : State) (rs : List Report) where
   pub counted_less : (n : ℕ) → counted (less rs s) n ≤ counted s n
   counted_less n =
-      let a = count_remain an_offer offer_laws rs s.book.buys n in
-      let b = count_remain an_offer offer_laws rs s.book.sells n in
-      let c = count_remain an_answer answer_laws rs s.answers n in
-      let d = count_remain a_request request_laws rs s.requests n in
-      omega arith
+      omega (arith, count_remain an_offer offer_laws rs s.book.buys n, count_remain an_offer offer_laws rs s.book.sells n, count_remain an_answer answer_laws rs s.answers n, count_remain a_request request_laws rs s.requests n)
 
   pub less_sound : Sound s → Whole s.book.lot rs → Sound (less rs s)
   less_sound g w =
@@ -70,29 +72,21 @@ module _ (s : State) (rs : List Report) where
         lot = g.lot;
         apart = λ n. (let a = g.apart n in let b = counted_less n in omega arith);
         below = λ n l. (let a = g.below n l in let b = counted_less n in omega arith);
-        buys = whole_remain an_offer offer_laws _ rs s.book.buys (whole_sub _) t g.buys;
-        sells = whole_remain an_offer offer_laws _ rs s.book.sells (whole_sub _) t g.sells;
-        answers = whole_remain an_answer answer_laws _ rs s.answers (whole_sub _) t g.answers;
-        requests = whole_remain a_request request_laws _ rs s.requests (whole_sub _) t g.requests;
+        buys = whole_remain an_offer offer_laws _ rs s.book.buys t g.buys;
+        sells = whole_remain an_offer offer_laws _ rs s.book.sells t g.sells;
+        answers = whole_remain an_answer answer_laws _ rs s.answers t g.answers;
+        requests = whole_remain a_request request_laws _ rs s.requests t g.requests;
       }
-
-  -- a list without the number, or with it
-  either : {X : Type 0} (k : Kept X) (xs : List X) (n : ℕ) → ((count k xs n ≡ 0) × (came_as k xs n ≡ 0)) ⊎ (0 < count k xs n)
-  either k xs n = elim (cases_eq (count k xs n) 0) [ inl e ↦ inl (e, came_none k xs n e) | inr h ↦ inr (omega arith) ]
 
   pub less_open : Sound s → ((n : ℕ) → touched rs n ≤ open_now s n) → (n : ℕ) → open_now (less rs s) n + touched rs n ≡ open_now s n
   less_open g w n =
       let one = g.apart n in
       let few = w n in
-      let a = came_remain an_offer offer_laws rs s.book.buys n (omega arith) in
-      let b = came_remain an_offer offer_laws rs s.book.sells n (omega arith) in
-      let c = came_remain an_answer answer_laws rs s.answers n (omega arith) in
-      let d = came_remain a_request request_laws rs s.requests n (omega arith) in
-      let a' = either an_offer s.book.buys n in
-      let b' = either an_offer s.book.sells n in
-      let c' = either an_answer s.answers n in
-      let d' = either a_request s.requests n in
-      omega arith
+      let a = came_remain an_offer offer_laws rs s.book.buys n in
+      let b = came_remain an_offer offer_laws rs s.book.sells n in
+      let c = came_remain an_answer answer_laws rs s.answers n in
+      let d = came_remain a_request request_laws rs s.requests n in
+      grind (arith, came_none)
 
 pub fine_append : (s : State) (a b : List Report) → Sound s → Fine s a → Fine (less a s) b → Fine s (a ++ b)
 fine_append s a b g f h =

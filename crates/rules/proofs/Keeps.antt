@@ -1,7 +1,11 @@
 -- Each message's reports take no more than is there, and each message leaves a state in order.
-use Rattle.std.proofs.Common.{◌≡◌, ℕ, ◌+◌, ◌%◌, ◌<◌, ◌≤◌, Bool, true, false, cond, eqb, ◌⊎◌, List, [], ◌∷◌, ◌++◌, Some, None, filter, Option, sym, refl, ◌∙◌, subst, inl, inr, arith}
-use Rattle.std.proofs.ByRecursion.{All-weaker, All-append, all_kept_by, All-map, all_shuffled}
-use Rattle.std.proofs.lemmas.Bool.{cond-true, cond-false, eq-eqb, ne_eqb, eqb-true, cases_eq}
+use Rattle.std.proofs.Common.{◌≡◌, ℕ, ◌+◌, ◌%◌, ◌<◌, ◌≤◌, true, cond, eqb, List, [], ◌∷◌, ◌++◌, Some, None, filter, Option, refl, subst, arith}
+use Rattle.std.specs.List.{AllByRecursion}
+use Rattle.std.proofs.ByRecursion.{kept_by_passes, All-weaker, All-append, all_kept_by, all_shuffled}
+use Rattle.std.proofs.lemmas.Bool.Decides.{nat_tests}
+use Rattle.std.proofs.lemmas.Bool.{cond_both, eqb-true}
+use Rattle.units.specs.declared.Quantity.{Quantity}
+use Rattle.units.specs.declared.Money.{Money}
 use Rattle.units.specs.declared.side.Side.{Side}
 use Rattle.units.specs.declared.side.Side.TheVariants.{Buy, Sell}
 use Rattle.units.specs.Sides.{other}
@@ -9,10 +13,6 @@ use Rattle.ranked.specs.Orders.{lower}
 use Rattle.ranked.proofs.Placing.{ranked_shuffled}
 use Rattle.book.specs.declared.Offer.{Offer}
 use Rattle.book.specs.Meaning.{side_of}
-use Rattle.draw.specs.declared.offers.Eligible.{Eligible}
-use Rattle.draw.specs.Sides.{no_worse}
-use Rattle.draw.specs.Offers.{as_eligible}
-use Rattle.draw.specs.Rankings.{trading_before}
 use Rattle.draw.specs.Fills.{fills}
 use Rattle.rules.specs.declared.records.Answer.{Answer}
 use Rattle.rules.specs.declared.records.Request.{Request}
@@ -22,14 +22,15 @@ use Rattle.rules.specs.declared.reports.KillReason.TheVariants as reasons
 use Rattle.rules.specs.declared.reports.Report.{Report}
 use Rattle.rules.specs.State.{State, an_offer, an_answer, a_request}
 use Rattle.rules.specs.Reports.{remain, pour, kills, filled, killed}
-use Rattle.rules.specs.Offers.{under, first, none, in_turn, is_automatic, expiring, crossing, trading_ranking, from_book, met}
-use Rattle.rules.specs.Calls.{Call, new_offer, taken_back}
-use Rattle.rules.specs.Calls.Call.{order, withdrawal, manual, automatic, answer, confirmation, clock}
+use Rattle.rules.specs.Offers.{under, first, none, in_turn, is_automatic, expiring, crossing, trading_ranking, met}
+use Rattle.rules.specs.Calls.{Call, taken_back}
+use Rattle.rules.specs.Calls.Call.{order, withdrawal, answer, confirmation, clock}
 use Rattle.rules.specs.Step.{less, ends, ranked_for, trade, decision_at, decision_in_turn, with_end, with_end_if, turn, turn_by, turn_of, confirmed, confirmed_by, matched, one_by_one, expiry, expiries, turns_after, reported, received}
 use Rattle.rules.specs.History.{came_as}
 use Rattle.rules.proofs.Left.{touched, touched_append, count, came_append, came_none, count_remain, came_remain}
-use Rattle.rules.proofs.Pours.{an_eligible, came_kept, count_kept, came_map, came_shuffled, count_shuffled, touched_kills, whole_kills, touched_fills, taken_below, fills_units, fills_whole_lots, units, Whole}
-use Rattle.rules.proofs.Fine.{Sound, Fine, Lots, fine_none, fine_append, one_by_one_fine, ends_fine, ends_touch, less_sound, request_laws, answer_laws}
+use Rattle.rules.proofs.Pours.{sum_crossing, each_crossing, came_sum, came_kept, count_kept, came_shuffled, count_shuffled, touched_kills, whole_kills, touched_fills, taken_below, fills_units, fills_whole_lots, Whole}
+use Rattle.rules.proofs.Fine.{Sound, Fine, Lots, side_lots, fine_none, fine_append, one_by_one_fine, ends_fine, ends_touch, less_sound, request_laws, answer_laws}
+use Rattle.rules.proofs.Arrivals.{Passes}
 use Rattle.rules.proofs.Fairs.{units_of, trade_is, fits_at, fits_in_turn, traded_touch, traded_whole}
 
 -- ── requests of a state ──
@@ -37,21 +38,13 @@ use Rattle.rules.proofs.Fairs.{units_of, trade_is, fits_at, fits_in_turn, traded
 pub came_some : (lot : ℕ) (xs : List Request) (k : ℕ) → Lots a_request lot xs → 0 < count a_request xs k → 0 < came_as a_request xs k
 unfolding came_as count
 came_some lot [] k a h = absurd (omega arith)
-came_some lot (x ∷ xs) k a h = go (eqb x.number.0 k) h (came_some lot xs k a.1)
-  where
-    go : (b : Bool) → 0 < cond b 1 0 + count a_request xs k → (0 < count a_request xs k → 0 < came_as a_request xs k) → 0 < cond b x.left.0 0 + came_as a_request xs k
-    go true h i = let z = a.0.0 in omega arith
-    go false h i = let z = i (omega arith) in omega arith
+came_some lot (x ∷ xs) k a h = let i = came_some lot xs k a.1 in let l = a.0.0 in grind (arith, nat_tests)
 
 -- other numbers are not among those of one number
 came_other : (n : ℕ) (xs : List Request) (k : ℕ) → (n ≡ k → ⊥) → came_as a_request (under a_request n xs) k ≡ 0
 unfolding came_as
 came_other n [] k ne = refl
-came_other n (x ∷ xs) k ne = go (eqb x.number.0 n) refl (came_other n xs k ne)
-  where
-    go : (b : Bool) → eqb x.number.0 n ≡ b → came_as a_request (under a_request n xs) k ≡ 0 → came_as a_request (cond b (x ∷ under a_request n xs) (under a_request n xs)) k ≡ 0
-    go true e h = let z = cond-false (eqb x.number.0 k) x.left.0 0 (ne_eqb _ k (λ f. ne (sym (eqb-true _ n e) ∙ f))) in omega arith
-    go false e h = h
+came_other n (x ∷ xs) k ne = let h = came_other n xs k ne in grind (arith, nat_tests)
 
 -- a request that is found is open
 pub record Open (lot : ℕ) (xs : List Request) (n : ℕ) (r : Request) : Type 0 where
@@ -60,24 +53,34 @@ pub record Open (lot : ℕ) (xs : List Request) (n : ℕ) (r : Request) : Type 0
   pub some : 0 < r.left.0
   pub whole : r.left.0 % lot ≡ 0
 
-pub found_open : (lot n : ℕ) (xs : List Request) → Lots a_request lot xs → (r : Request) → first (under a_request n xs) ≡ Some r → Open lot xs n r
+-- what holds of each of a list holds of the first
+pub first_of : {X : Type 0} (P : X → Type 0) (xs : List X) (x : X) → AllByRecursion P xs → first xs ≡ Some x → P x
+first_of P [] x a e = absurd (grind arith)
+first_of P (y ∷ xs) x a e = let q : y ≡ x = cc in subst P q a.0
+
+came_each : (xs : List Request) → AllByRecursion (λ (x : Request). x.left.0 ≤ came_as a_request xs x.number.0) xs
 unfolding came_as
-found_open lot n [] a r e = let z : ◌≡◌ {A = ℕ} 0 1 = cc in absurd (omega arith)
-found_open lot n (x ∷ xs) a r e = go (eqb x.number.0 n) refl e (found_open lot n xs a.1 r)
+came_each [] = tt
+came_each (x ∷ xs) = (grind (arith, nat_tests), All-weaker _ _ (λ y h. omega arith) xs (came_each xs))
+
+pub found_open : (lot n : ℕ) (xs : List Request) → Lots a_request lot xs → (r : Request) → first (under a_request n xs) ≡ Some r → Open lot xs n r
+found_open lot n xs a r e =
+    let l = first_of (λ (x : Request). (0 < x.left.0) × (x.left.0 % lot ≡ 0)) _ r (all_kept_by _ _ xs a) e in
+    record {
+      is = eqb-true _ n (first_of (λ (x : Request). eqb x.number.0 n ≡ true) _ r (kept_by_passes _ xs) e);
+      amount = first_of (λ (x : Request). x.left.0 ≤ came_as a_request xs x.number.0) _ r (all_kept_by _ _ xs (came_each xs)) e;
+      some = l.0;
+      whole = l.1;
+    }
+
+-- and what holds where none is found, and of an open request, holds of what is found
+pub at_request : (P : Option Request → Type 0) (lot n : ℕ) (xs : List Request) → Lots a_request lot xs → (first (under a_request n xs) ≡ None → P None) →
+    ((r : Request) → first (under a_request n xs) ≡ Some r → Open lot xs n r → P (Some r)) → P (first (under a_request n xs))
+at_request P lot n xs a none some = go (first (under a_request n xs)) refl
   where
-    go : (b : Bool) → eqb x.number.0 n ≡ b → first (cond b (x ∷ under a_request n xs) (under a_request n xs)) ≡ Some r →
-        (first (under a_request n xs) ≡ Some r → Open lot xs n r) → Open lot (x ∷ xs) n r
-    go true f e h =
-        let q : x ≡ r = cc in
-        subst (Open lot (x ∷ xs) n) q (record {
-          is = eqb-true _ n f;
-          amount = (let z = cond-true (eqb x.number.0 x.number.0) x.left.0 0 (eq-eqb x.number.0 x.number.0 refl) in omega arith);
-          some = a.0.0;
-          whole = a.0.1;
-        })
-    go false f e h =
-        let o = h e in
-        record { is = o.is; amount = (let z = o.amount in omega arith); some = o.some; whole = o.whole }
+    go : (r : Option Request) → first (under a_request n xs) ≡ r → P r
+    go None e = none e
+    go (Some r) e = some r e (found_open lot n xs a r e)
 
 -- ── fills and the end ──
 
@@ -86,20 +89,12 @@ module _ (s : State) (g : Sound s) (r : Request) (amount : r.left.0 ≤ came_as 
   pub traded_fine : (d : Side) (n : ℕ) → n ≤ r.left.0 → n % s.book.lot ≡ 0 → Fine s (pour r.number.0 (ranked_for s r d) n)
   traded_fine d n few v =
       record {
-        within = λ k. (let t = traded_touch s r d g n v k in let m = pick k (cases_eq r.number.0 k) in omega arith);
+        within = λ k. (let t = traded_touch s r d g n v k in grind (arith, nat_tests));
         whole = traded_whole s r d g n v;
       }
-    where
-      pick : (k : ℕ) → ((r.number.0 ≡ k) ⊎ (r.number.0 ≡ k → ⊥)) → cond (eqb r.number.0 k) n 0 ≤ came_as a_request s.requests k
-      pick k (inl e) = subst (λ (z : ℕ). cond (eqb r.number.0 z) n 0 ≤ came_as a_request s.requests z) e
-          (let z = cond-true (eqb r.number.0 r.number.0) n 0 (eq-eqb r.number.0 r.number.0 refl) in omega arith)
-      pick k (inr ne) = let z = cond-false (eqb r.number.0 k) n 0 (ne_eqb _ k ne) in omega arith
 
-  at_fine : (d : Side) (price least : ℕ) → Fine s (trade s r d (decision_at s r d price least))
-  at_fine d price least = let f = fits_at s r d g w price least in subst (Fine s) (sym (trade_is s r d (decision_at s r d price least))) (traded_fine d _ f.0 f.1)
-
-  in_turn_fine : (d : Side) (limit least : ℕ) → Fine s (trade s r d (decision_in_turn s r d limit least))
-  in_turn_fine d limit least = let f = fits_in_turn s r d g w limit least in subst (Fine s) (sym (trade_is s r d (decision_in_turn s r d limit least))) (traded_fine d _ f.0 f.1)
+  trade_fine : (d : Side) (x : Option (Quantity × Money)) → (units_of x ≤ r.left.0) × (units_of x % s.book.lot ≡ 0) → Fine s (trade s r d x)
+  trade_fine d x f = rw (trade_is s r d x) (traded_fine d _ f.0 f.1)
 
   end_fine : (n : ℕ) (fs : List Report) → Fine s fs → Fine s (with_end s n fs)
   end_fine n fs f = fine_append s fs _ g f (ends_fine (less fs s) n reasons.RequestDone reasons.AnswerDone (less_sound s fs g f.whole))
@@ -112,7 +107,7 @@ module _ (s : State) (g : Sound s) (r : Request) (amount : r.left.0 ≤ came_as 
   confirmed_fine d p = go r.terms
     where
       go : (t : Terms) → Fine s (confirmed_by s d p r t)
-      go (Manual e m) = end_fine r.number.0 (trade s r d (decision_at s r d p m.0)) (at_fine d p m.0)
+      go (Manual e m) = end_fine r.number.0 (trade s r d (decision_at s r d p m.0)) (trade_fine d _ (fits_at s r d g w p m.0))
       go (Automatic e l m) = fine_none s
 
   pub turn_fine : Fine s (turn s r)
@@ -120,32 +115,22 @@ module _ (s : State) (g : Sound s) (r : Request) (amount : r.left.0 ≤ came_as 
     where
       go : (t : Terms) → Fine s (turn_by s r t)
       go (Manual e m) = fine_none s
-      go (Automatic d limit m) = end_if_fine r.number.0 (trade s r d (decision_in_turn s r d limit.0 m.0)) (in_turn_fine d limit.0 m.0)
+      go (Automatic d limit m) = end_if_fine r.number.0 (trade s r d (decision_in_turn s r d limit.0 m.0)) (trade_fine d _ (fits_in_turn s r d g w limit.0 m.0))
 
   -- a turn takes nothing of another request
   module _ (k : ℕ) (ne : r.number.0 ≡ k → ⊥) (other_one : 0 < count a_request s.requests k) where
-    no_answer : count an_answer s.answers k ≡ 0
-    no_answer = let a = g.apart k in omega arith
-
     traded_spares : (d : Side) (n : ℕ) → n % s.book.lot ≡ 0 → touched (pour r.number.0 (ranked_for s r d) n) k ≡ 0
-    traded_spares d n v =
-        let a = g.apart k in
-        let t = traded_touch s r d g n v k in
-        let z = cond-false (eqb r.number.0 k) n 0 (ne_eqb _ k ne) in
-        let x = came_none an_offer s.book.buys k (omega arith) in
-        let y = came_none an_offer s.book.sells k (omega arith) in
-        let u = came_none an_answer s.answers k no_answer in
-        omega arith
+    traded_spares d n v = let a = g.apart k in let t = traded_touch s r d g n v k in grind (arith, nat_tests, came_none)
 
     ends_spare : (fs : List Report) → touched (ends (less fs s) r.number.0 reasons.RequestDone reasons.AnswerDone) k ≡ 0
     ends_spare fs =
+        let g' = g.apart k in
         let t = ends_touch (less fs s) r.number.0 reasons.RequestDone reasons.AnswerDone k in
         let a = came_other r.number.0 (remain a_request fs s.requests) k ne in
         let c = count_remain an_answer answer_laws fs s.answers k in
-        let n = no_answer in
-        let z = came_none an_answer (remain an_answer fs s.answers) k (omega arith) in
+        let z = came_none an_answer (remain an_answer fs s.answers) k in
         let b = came_kept an_answer (λ (x : Answer). eqb x.request.0 r.number.0) (remain an_answer fs s.answers) k in
-        omega arith
+        grind arith
 
     end_if_spares : (fs : List Report) → touched fs k ≡ 0 → touched (with_end_if s r.number.0 fs) k ≡ 0
     end_if_spares [] h = h
@@ -162,8 +147,7 @@ module _ (s : State) (g : Sound s) (r : Request) (amount : r.left.0 ≤ came_as 
         go (Manual e m) = nothing
         go (Automatic d limit m) =
             end_if_spares (trade s r d (decision_in_turn s r d limit.0 m.0))
-            (subst (λ (xs : List Report). touched xs k ≡ 0) (sym (trade_is s r d (decision_in_turn s r d limit.0 m.0)))
-            (traded_spares d (units_of (decision_in_turn s r d limit.0 m.0)) (fits_in_turn s r d g w limit.0 m.0).1))
+            (rw (trade_is s r d (decision_in_turn s r d limit.0 m.0)) (traded_spares d _ (fits_in_turn s r d g w limit.0 m.0).1))
 
 -- ── requests that wait for their turn ──
 
@@ -181,23 +165,19 @@ due_step r rs s g d = (d.lots.0.0, w, turn_fine s g r amount w, record { amount 
     w = d.lots.0.1
 
     amount : r.left.0 ≤ came_as a_request s.requests r.number.0
-    amount = let a = d.amount r.number.0 in let z = cond-true (eqb r.number.0 r.number.0) r.left.0 0 (eq-eqb r.number.0 r.number.0 refl) in omega arith
+    amount = let a = d.amount r.number.0 in grind (arith, nat_tests)
 
     later : (k : ℕ) → came_as a_request rs k ≤ came_as a_request (remain a_request (turn s r) s.requests) k
-    later k = elim (cases_eq (count a_request rs k) 0) [ inl e ↦ (let z = came_none a_request rs k e in omega arith) | inr h ↦ more (omega arith) ]
-      where
-        more : 0 < count a_request rs k → came_as a_request rs k ≤ came_as a_request (remain a_request (turn s r) s.requests) k
-        more h =
-            let a = d.amount k in
-            let p = came_some s.book.lot rs k d.lots.1 h in
-            let one = d.apart k in
-            let ne : r.number.0 ≡ k → ⊥ = λ e. (let z = cond-true {A = ℕ} (eqb r.number.0 k) 1 0 (eq-eqb _ k e) in omega arith) in
-            let y = cond-false (eqb r.number.0 k) r.left.0 0 (ne_eqb _ k ne) in
-            let there : 0 < count a_request s.requests k = elim (cases_eq (count a_request s.requests k) 0) [ inl e ↦ absurd (let z = came_none a_request s.requests k e in omega arith) | inr f ↦ omega arith ] in
-            let t = turn_spares s g r amount w k ne there in
-            let q = g.apart k in
-            let c = came_remain a_request request_laws (turn s r) s.requests k (omega arith) in
-            omega arith
+    later k =
+        let a = d.amount k in
+        let b = d.apart k in
+        let q = g.apart k in
+        let p = came_some s.book.lot rs k d.lots.1 in
+        let y = came_none a_request rs k in
+        let z = came_none a_request s.requests k in
+        let t = turn_spares s g r amount w k in
+        let c = came_remain a_request request_laws (turn s r) s.requests k in
+        grind (arith, nat_tests)
 
 pub in_turn_due : (s : State) → Sound s → Due (in_turn s.requests) s
 in_turn_due s g =
@@ -230,56 +210,27 @@ taken_back_fine s k g =
     let B = kills an_offer reasons.Withdrawn (under an_offer k s.book.buys) in
     let C = kills an_offer reasons.Withdrawn (under an_offer k s.book.sells) in
     record {
-      within = λ n. (
-          let t = touched_append A (B ++ C) n in
-          let u = touched_append B C n in
-          let a = touched_kills an_answer reasons.Withdrawn (under an_answer k s.answers) n in
-          let b = touched_kills an_offer reasons.Withdrawn (under an_offer k s.book.buys) n in
-          let c = touched_kills an_offer reasons.Withdrawn (under an_offer k s.book.sells) n in
-          let a' = came_kept an_answer (λ (x : Answer). eqb x.number.0 k) s.answers n in
-          let b' = came_kept an_offer (λ (x : Offer). eqb x.number.0 k) s.book.buys n in
-          let c' = came_kept an_offer (λ (x : Offer). eqb x.number.0 k) s.book.sells n in
-          omega arith);
+      within = λ n. grind (arith, touched_append, touched_kills, came_kept);
       whole = All-append _ A (B ++ C) (whole_kills an_answer _ reasons.Withdrawn _ (all_kept_by _ _ s.answers g.answers))
           (All-append _ B C (whole_kills an_offer _ reasons.Withdrawn _ (all_kept_by _ _ s.book.buys g.buys)) (whole_kills an_offer _ reasons.Withdrawn _ (all_kept_by _ _ s.book.sells g.sells)));
     }
 
 -- an order's fills, where its own side has it
 module _ (s : State) (g : Sound s) (n : ℕ) (d : Side) (p q : ℕ) (w : q % s.book.lot ≡ 0) where
-  lots : Lots an_offer s.book.lot (side_of s.book (other d))
-  lots = go (other d)
-    where
-      go : (e : Side) → Lots an_offer s.book.lot (side_of s.book e)
-      go Buy = g.buys
-      go Sell = g.sells
-
   abbrev theirs : List Offer
   theirs = side_of s.book (other d)
 
-  abbrev here : List Eligible
-  here = crossing d p (met (other d) theirs)
-
   matched_touch : (k : ℕ) → touched (matched s n (Some d) p q) k ≤ cond (eqb n k) q 0 + came_as an_offer theirs k
   matched_touch k =
-      let R = trading_ranking d here in
+      let R = trading_ranking d (crossing d p (met (other d) theirs)) in
       let t = touched_fills n (fills R q) k in
       let b = taken_below R q k in
       let u = fills_units R q in
-      let h = came_shuffled an_eligible here R (ranked_shuffled (trading_before d) here) k in
-      let c = came_kept an_eligible (λ (o : Eligible). no_worse d o.price.0 p) (met (other d) theirs) k in
-      let m = came_map an_offer an_eligible (λ o. as_eligible (from_book (other d) o)) (λ x. refl) (λ x. refl) theirs k in
-      let y = pick (eqb n k) (units (fills R q)) (omega arith) in
-      omega arith
-    where
-      pick : (b : Bool) (x : ℕ) → x ≤ q → cond b x 0 ≤ cond b q 0
-      pick true x h = h
-      pick false x h = omega arith
+      let c = sum_crossing d (other d) p theirs (λ m l. cond (eqb m k) l 0) in
+      grind (arith, nat_tests, came_sum)
 
   matched_whole : Whole s.book.lot (matched s n (Some d) p q)
-  matched_whole =
-      fills_whole_lots s.book.lot n (trading_ranking d here) q w
-      (all_shuffled _ here (trading_ranking d here) (ranked_shuffled (trading_before d) here)
-      (all_kept_by _ _ (met (other d) theirs) (All-map _ (λ o. as_eligible (from_book (other d) o)) theirs (All-weaker _ _ (λ x h. h.1) theirs lots))))
+  matched_whole = fills_whole_lots s.book.lot n _ q w (each_crossing d (other d) p theirs (λ o. o.left.0 % s.book.lot ≡ 0) (All-weaker _ _ (λ x h. h.1) theirs (side_lots s g (other d))))
 
   pub matched_fine : ((k : ℕ) → cond (eqb n k) q 0 + came_as an_offer (side_of s.book (other d)) k ≤ came_as an_offer s.book.buys k + came_as an_offer s.book.sells k) →
       Fine s (matched s n (Some d) p q)
@@ -289,49 +240,20 @@ module _ (s : State) (g : Sound s) (n : ℕ) (d : Side) (p q : ℕ) (w : q % s.b
 own_side : (s : State) (d : Side) (f : _) (p : _) (q : _) (k : ℕ) → let z = received s (order f (Some d) p q) in
     cond (eqb s.next k) q.0 0 + came_as an_offer (side_of z.book (other d)) k ≤ came_as an_offer z.book.buys k + came_as an_offer z.book.sells k
 unfolding came_as
-own_side s Buy f p q k =
-    let a = came_append an_offer s.book.buys (new_offer s.next f p q ∷ []) k in omega arith
-own_side s Sell f p q k =
-    let a = came_append an_offer s.book.sells (new_offer s.next f p q ∷ []) k in omega arith
+own_side s Buy f p q k = grind (arith, came_append)
+own_side s Sell f p q k = grind (arith, came_append)
 
--- what an accepted message reports, where an order's quantity is in whole lots
-abbrev pub Asks : State → Call → Type 0
-Asks s (order f d p q) = q.0 % s.book.lot ≡ 0
-Asks s (withdrawal f k) = Unit {0}
-Asks s (manual f d q m w) = Unit {0}
-Asks s (automatic f d p q m w) = Unit {0}
-Asks s (answer f d k p q) = Unit {0}
-Asks s (confirmation f d k p) = Unit {0}
-Asks s (clock w) = Unit {0}
-
-pub reported_fine : (s : State) (c : Call) → Asks s c → Sound (received s c) → Fine (received s c) (reported (received s c) s.next c)
-reported_fine s (order f None p q) a g = fine_none _
-reported_fine s (order f (Some d) p q) a g = matched_fine (received s (order f (Some d) p q)) g s.next d p.0 q.0 a (own_side s d f p q)
-reported_fine s (withdrawal f k) a g = pick (none (under a_request k.0 (received s (withdrawal f k)).requests))
-  where
-    z : State
-    z = received s (withdrawal f k)
-
-    pick : (b : Bool) → Fine z (cond b (taken_back z.book.buys z.book.sells z.answers k.0) (ends z k.0 reasons.RequestWithdrawn reasons.AnswerDropped))
-    pick true = taken_back_fine z k.0 g
-    pick false = ends_fine z k.0 reasons.RequestWithdrawn reasons.AnswerDropped g
-reported_fine s (manual f d q m w) a g = fine_none _
-reported_fine s (automatic f d p q m w) a g = fine_none _
-reported_fine s (answer f d k p q) a g = go (first (under a_request k.0 z.requests)) refl
-  where
-    z : State
-    z = received s (answer f d k p q)
-
-    go : (r : Option Request) → first (under a_request k.0 z.requests) ≡ r → Fine z (turn_of z r)
-    go None e = fine_none z
-    go (Some r) e = let o = found_open z.book.lot k.0 z.requests g.requests r e in turn_fine z g r o.amount o.whole
-reported_fine s (confirmation f d k p) a g = go d (first (under a_request k.0 z.requests)) refl
-  where
-    z : State
-    z = received s (confirmation f d k p)
-
-    go : (d : Option Side) (r : Option Request) → first (under a_request k.0 z.requests) ≡ r → Fine z (confirmed z d p.0 r)
-    go None r e = fine_none z
-    go (Some d) None e = fine_none z
-    go (Some d) (Some r) e = let o = found_open z.book.lot k.0 z.requests g.requests r e in confirmed_fine z g r o.amount o.whole d p.0
+-- what an accepted message reports
+pub reported_fine : (s : State) (c : Call) → Passes s c → Sound (received s c) → Fine (received s c) (reported (received s c) s.next c)
+reported_fine s (order f (Some d) p q) a g = matched_fine (received s (order f (Some d) p q)) g s.next d p.0 q.0 a.0.1 (own_side s d f p q)
+reported_fine s (withdrawal f k) a g =
+    let z = received s (withdrawal f k) in
+    cond_both (none (under a_request k.0 z.requests)) _ _ (λ rs. Fine z rs) (λ _. taken_back_fine z k.0 g) (λ _. ends_fine z k.0 reasons.RequestWithdrawn reasons.AnswerDropped g)
+reported_fine s (answer f d k p q) a g =
+    let z = received s (answer f d k p q) in
+    at_request (λ r. Fine z (turn_of z r)) z.book.lot k.0 z.requests g.requests (λ _. fine_none z) (λ r _ o. turn_fine z g r o.amount o.whole)
+reported_fine s (confirmation f (Some d) k p) a g =
+    let z = received s (confirmation f (Some d) k p) in
+    at_request (λ r. Fine z (confirmed z (Some d) p.0 r)) z.book.lot k.0 z.requests g.requests (λ _. fine_none z) (λ r _ o. confirmed_fine z g r o.amount o.whole d p.0)
 reported_fine s (clock t) a g = clock_fine t.0 (received s (clock t)) g
+reported_fine s _ a g = fine_none _

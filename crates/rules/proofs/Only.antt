@@ -15,21 +15,18 @@ use Rattle.rules.specs.State.{Opening, a_request}
 use Rattle.rules.specs.Reports.{filled_by, size_of, money_of}
 use Rattle.rules.specs.Offers.{request_ranking, under, first}
 use Rattle.rules.specs.Calls.{Call, Sent, Reply}
-use Rattle.rules.specs.Calls.Call.{order, withdrawal, manual, automatic, answer, confirmation, clock}
+use Rattle.rules.specs.Calls.Call.{order, answer, confirmation, clock}
 use Rattle.rules.specs.Checks.{refusal}
 use Rattle.rules.specs.History.{Ledger, Event, ledger, time, with_call, with_reports, open_requests, stands}
 use Rattle.rules.specs.Law.{TradesFairly, TurnBy, Turns, ConfirmedBy, Confirmed, Answered, ClockStep, Ordered, Accepts, Replies, Each, ended, ended_if, expired_at}
 use Rattle.rules.specs.Bite.{NoChoice, OneHistory}
 
-some : {X : Type 0} (x : X) (xs : List X) → x ∷ xs ≡ [] → ⊥
-some x xs e = let z : ◌≡◌ {A = ℕ} 0 1 = cc in omega arith
-
 fair_only : (d : Side) (os : List Eligible) (G : Draw → Type 0) (fs gs : List Fill) → TradesFairly d os G fs → TradesFairly d os G gs → fs ≡ gs
 fair_only d os G [] gs h k = sym (k.fair.only_so (h.fair.unfilled refl))
 fair_only d os G (f ∷ fs) [] h k = h.fair.only_so (k.fair.unfilled refl)
 fair_only d os G (f ∷ fs) (g ∷ gs) h k =
-    let x = h.fair.trades (some f fs) in
-    let y = k.fair.trades (some g gs) in
+    let x = h.fair.trades (λ e. grind arith) in
+    let y = k.fair.trades (λ e. grind arith) in
     let a = y.greatest _ x.good in
     let b = x.greatest _ y.good in
     let e : size os (taken (f ∷ fs)) ≡ size os (taken (g ∷ gs)) = omega arith in
@@ -69,17 +66,12 @@ module _ (lot : ℕ) where
 
   reports_only : (l : Ledger) (n : ℕ) (c : Call) (a b : List Report) → Accepts lot l n c a → Accepts lot l n c b → a ≡ b
   reports_only l n (order f d p q) a b h k = ordered_only l n d p.0 q.0 a b h k
-  reports_only l n (withdrawal f x) a b h k = h ∙ sym k
-  reports_only l n (manual f d q m v) a b h k = h ∙ sym k
-  reports_only l n (automatic f d p q m v) a b h k = h ∙ sym k
   reports_only l n (answer f d x p q) a b h k = answer_only l (first (under a_request x.0 (open_requests l))) a b h k
   reports_only l n (confirmation f d x p) a b h k = confirmed_only l d p.0 (first (under a_request x.0 (open_requests l))) a b h k
   reports_only l n (clock t) a b h k = clock_only l t.0 a b h k
+  reports_only l n _ a b h k = h ∙ sym k
 
 -- ── replies ──
-
-not_none : {X : Type 0} (x : X) (o : Option X) → o ≡ None → o ≡ Some x → ⊥
-not_none x o e f = let z : ◌≡◌ {A = ℕ} 0 1 = cc in omega arith
 
 abbrev told : ℕ → ℕ → ℕ → ℕ → Accepted
 told n c q m = record { number = record { 0 = n }; count = c; size = record { 0 = q }; money = record { 0 = m } }
@@ -106,8 +98,8 @@ no_choice o es m (Ok a) (Ok b) rs qs h k = (same, reports)
 
     same : ◌≡◌ {A = Reply} (Ok a) (Ok b)
     same = λ i. Ok (told (number i) (count i) (size_same i) (money_same i))
-no_choice o es m (Ok a) (Err r) rs qs h k = absurd (not_none r _ h.passed k.0)
-no_choice o es m (Err r) (Ok b) rs qs h k = absurd (not_none r _ k.passed h.0)
+no_choice o es m (Ok a) (Err r) rs qs h k = absurd (let e = h.passed in let f = k.0 in grind arith)
+no_choice o es m (Err r) (Ok b) rs qs h k = absurd (let e = k.passed in let f = h.0 in grind arith)
 no_choice o es m (Err r) (Err q) rs qs h k = (ap Err (same (refusal (stands o es) m) h.0 k.0), h.1 ∙ sym k.1)
   where
     same : (x : Option Refusal) → x ≡ Some r → x ≡ Some q → r ≡ q
@@ -120,8 +112,8 @@ sents es = map (λ (e : Event). e.sent) es
 
 one_each : (o : Opening) (es fs : List Event) → sents es ≡ sents fs → Each o es → Each o fs → es ≡ fs
 one_each o [] [] q h k = refl
-one_each o [] (f ∷ fs) q h k = let z : ◌≡◌ {A = ℕ} 0 1 = cc in absurd (omega arith)
-one_each o (e ∷ es) [] q h k = let z : ◌≡◌ {A = ℕ} 0 1 = cc in absurd (omega arith)
+one_each o [] (f ∷ fs) q h k = absurd (grind arith)
+one_each o (e ∷ es) [] q h k = absurd (grind arith)
 one_each o (e ∷ es) (f ∷ fs) q h k =
     let head : e.sent ≡ f.sent = cc in
     let tail : sents es ≡ sents fs = cc in

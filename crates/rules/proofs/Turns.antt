@@ -1,7 +1,6 @@
 -- Turns and confirmations by the ledger: a state that a ledger tells does what the law says.
-use Rattle.std.proofs.Common.{◌≡◌, ℕ, ◌%◌, ◌<◌, ◌≤◌, eqb, List, [], ◌∷◌, ◌++◌, map, Option, sym, refl, ap, ◌∙◌, subst, ap₂, append_assoc, append-nil, arith}
+use Rattle.std.proofs.Common.{◌≡◌, ℕ, ◌%◌, ◌<◌, List, [], ◌∷◌, ◌++◌, map, Option, sym, refl, ap, ◌∙◌, arith, subst, append_assoc, append-nil}
 use Rattle.std.specs.List.{AllByRecursion}
-use Rattle.std.proofs.lemmas.Bool.{cond-true, eq-eqb}
 use Rattle.units.specs.declared.Quantity.{Quantity}
 use Rattle.units.specs.declared.side.Side.{Side}
 use Rattle.units.specs.declared.side.Side.TheVariants.{Buy, Sell}
@@ -17,15 +16,16 @@ use Rattle.rules.specs.declared.reports.KillReason.{KillReason}
 use Rattle.rules.specs.declared.reports.KillReason.TheVariants as reasons
 use Rattle.rules.specs.declared.reports.Report.{Report}
 use Rattle.rules.specs.State.{State, an_offer, an_answer, a_request}
-use Rattle.rules.specs.Reports.{fills_by, filled_by, kills}
+use Rattle.rules.specs.Reports.{fills_by, filled_by}
 use Rattle.rules.specs.Offers.{offered_to, firms, under, by_number}
 use Rattle.rules.specs.Calls.{ending}
 use Rattle.rules.specs.Step.{less, ends, trade, ranked_for, decision_at, decision_in_turn, with_end, with_end_if, turn, turn_by, confirmed_by, one_by_one, expiry}
 use Rattle.rules.specs.History.{Ledger, with_reports, living, open_requests, standing, drawn_on}
 use Rattle.rules.specs.Law.{TradesFairly, TurnBy, Turn, Turns, ConfirmedBy, ended, ended_if, expired, expiry_of}
-use Rattle.rules.proofs.Left.{remain_remain, count}
-use Rattle.rules.proofs.Pours.{own_fills, other_fills, fills_by_append, fills_by_kills}
-use Rattle.rules.proofs.Fine.{Sound, Fine, less_sound, offer_laws, answer_laws, request_laws}
+use Rattle.rules.proofs.Left.{remain_remain, first_apart}
+use Rattle.rules.proofs.Pours.{own_fills, by_fills, other_fills, fills_by_append, fills_by_kills}
+use Rattle.rules.proofs.Fine.{Sound, less_sound, offer_laws, answer_laws, request_laws}
+use Rattle.rules.proofs.Keeps.{Due, due_step}
 use Rattle.rules.proofs.Fairs.{fair_at, fair_in_turn}
 
 -- ── the state that a ledger tells ──
@@ -69,8 +69,9 @@ told_less l b rs =
 -- an end has no fills
 fills_by_ends : (n : ℕ) (rs : List Request) (xs : List Answer) (k : ℕ) (a b : KillReason) → fills_by n (ending rs xs k a b) ≡ []
 fills_by_ends n rs xs k a b =
-    fills_by_append n (kills a_request a (under a_request k rs)) (kills an_answer b (by_number an_answer (offered_to k xs)))
-    ∙ ap₂ (λ (u v : List Fill). u ++ v) (fills_by_kills a_request n a (under a_request k rs)) (fills_by_kills an_answer n b (by_number an_answer (offered_to k xs)))
+    let r = fills_by_kills a_request n a (under a_request k rs) in
+    let x = fills_by_kills an_answer n b (by_number an_answer (offered_to k xs)) in
+    grind (arith, fills_by_append)
 
 module _ (l : Ledger) (b : State) (g : Sound (told l b)) where
   abbrev s : State
@@ -87,10 +88,10 @@ module _ (l : Ledger) (b : State) (g : Sound (told l b)) where
     -- of fills and an end, the fills are those of the taker
     fills_end : (fs : List Fill) → fills_by n (ended l n fs) ≡ fs
     fills_end fs =
-        fills_by_append n (map (filled_by n) fs) _
-        ∙ (ap₂ (λ (u v : List Fill). u ++ v) (own_fills n fs)
-        (fills_by_ends n (open_requests (with_reports l (map (filled_by n) fs))) (living (with_reports l (map (filled_by n) fs))) n reasons.RequestDone reasons.AnswerDone)
-        ∙ append-nil fs)
+        let ks = map (filled_by n) fs in
+        let o = own_fills n fs in
+        let e = fills_by_ends n (open_requests (with_reports l ks)) (living (with_reports l ks)) n reasons.RequestDone reasons.AnswerDone in
+        grind (arith, fills_by_append, append-nil)
 
     fills_if : (fs : List Fill) → fills_by n (ended_if l n fs) ≡ fs
     unfolding fills_by
@@ -101,11 +102,7 @@ module _ (l : Ledger) (b : State) (g : Sound (told l b)) where
   confirmed_law d p r e m w =
       let n = r.number.0 in
       let fs = traded (ranked_for s r d) (decision_at s r d p m.0) in
-      let is = ended_same n fs in
-      let q : fills_by n (confirmed_by s d p r (Manual e m)) ≡ fs = ap (fills_by n) is ∙ fills_end n fs in (
-        subst (TradesFairly d (drawn_on l r d) (Good d b.book.lot p m.0 r.left.0 (drawn_on l r d))) (sym q) (fair_at s r d g w p m.0),
-        is ∙ ap (ended l n) (sym q),
-      )
+      by_fills (TradesFairly d (drawn_on l r d) (Good d b.book.lot p m.0 r.left.0 (drawn_on l r d))) n (ended l n) fs (ended_same n fs) (fills_end n fs) (fair_at s r d g w p m.0)
 
   pub turn_law : (r : Request) → 0 < r.left.0 → r.left.0 % b.book.lot ≡ 0 → Turn b.book.lot l r (turn s r)
   turn_law r some w = go r.terms
@@ -115,11 +112,7 @@ module _ (l : Ledger) (b : State) (g : Sound (told l b)) where
       go (Automatic d limit m) =
           let n = r.number.0 in
           let fs = traded (ranked_for s r d) (decision_in_turn s r d limit.0 m.0) in
-          let is = ended_if_same n fs in
-          let q : fills_by n (turn_by s r (Automatic d limit m)) ≡ fs = ap (fills_by n) is ∙ fills_if n fs in (
-            subst (TradesFairly d (drawn_on l r d) (GoodAutomatic d b.book.lot limit.0 r.left.0 m.0 (firms n (living l)) (drawn_on l r d))) (sym q) (fair_in_turn s r d g w some limit.0 m.0),
-            is ∙ ap (ended_if l n) (sym q),
-          )
+          by_fills (TradesFairly d (drawn_on l r d) (GoodAutomatic d b.book.lot limit.0 r.left.0 m.0 (firms n (living l)) (drawn_on l r d))) n (ended_if l n) fs (ended_if_same n fs) (fills_if n fs) (fair_in_turn s r d g w some limit.0 m.0)
 
 -- the ends of requests that expire
 pub expired_law : (rs : List Request) (l : Ledger) (b : State) → one_by_one expiry rs (told l b) ≡ expired l rs
@@ -141,9 +134,7 @@ turn_others s r n ne = go r.terms
 
     with_if : (fs : List Report) → fills_by n fs ≡ [] → fills_by n (with_end_if s k fs) ≡ []
     with_if [] h = refl
-    with_if (f ∷ fs) h =
-        fills_by_append n (f ∷ fs) (ends (less (f ∷ fs) s) k reasons.RequestDone reasons.AnswerDone)
-        ∙ ap₂ (λ (u v : List Fill). u ++ v) h (fills_by_ends n (less (f ∷ fs) s).requests (less (f ∷ fs) s).answers k reasons.RequestDone reasons.AnswerDone)
+    with_if (f ∷ fs) h = let e = fills_by_ends n (less (f ∷ fs) s).requests (less (f ∷ fs) s).answers k reasons.RequestDone reasons.AnswerDone in grind (arith, fills_by_append)
 
     go : (t : Terms) → fills_by n (turn_by s r t) ≡ []
     go (Manual e m) = refl
@@ -153,63 +144,43 @@ turns_others : (rs : List Request) (s : State) (n : ℕ) → AllByRecursion (λ 
 unfolding one_by_one fills_by
 turns_others [] s n a = refl
 turns_others (r ∷ rs) s n a =
-    fills_by_append n (turn s r) (one_by_one turn rs (less (turn s r) s))
-    ∙ ap₂ (λ (u v : List Fill). u ++ v) (turn_others s r n a.0) (turns_others rs (less (turn s r) s) n a.1)
+    let t = turn_others s r n a.0 in
+    let h = turns_others rs (less (turn s r) s) n a.1 in
+    grind (arith, fills_by_append)
 
 pub expired_others : (rs : List Request) (l : Ledger) (n : ℕ) → fills_by n (expired l rs) ≡ []
 unfolding expired fills_by
 expired_others [] l n = refl
 expired_others (r ∷ rs) l n =
-    fills_by_append n (expiry_of l r) (expired (with_reports l (expiry_of l r)) rs)
-    ∙ ap₂ (λ (u v : List Fill). u ++ v) (fills_by_ends n (open_requests l) (living l) r.number.0 reasons.RequestExpired reasons.AnswerExpired) (expired_others rs (with_reports l (expiry_of l r)) n)
+    let e = fills_by_ends n (open_requests l) (living l) r.number.0 reasons.RequestExpired reasons.AnswerExpired in
+    let h = expired_others rs (with_reports l (expiry_of l r)) n in
+    grind (arith, fills_by_append)
 
 -- ── turns one after another ──
 
--- requests of different numbers
-none_counted : (k : ℕ) (rs : List Request) → count a_request rs k ≡ 0 → AllByRecursion (λ (r : Request). r.number.0 ≡ k → ⊥) rs
-unfolding count
-none_counted k [] e = tt
-none_counted k (r ∷ rs) e = ((λ h. (let z = cond-true {A = ℕ} (eqb r.number.0 k) 1 0 (eq-eqb _ k h) in omega arith)), none_counted k rs (omega arith))
-
-different : (r : Request) (rs : List Request) → ((k : ℕ) → count a_request (r ∷ rs) k ≤ 1) → AllByRecursion (λ (q : Request). q.number.0 ≡ r.number.0 → ⊥) rs × ((k : ℕ) → count a_request rs k ≤ 1)
-unfolding count
-different r rs one = (
-  none_counted r.number.0 rs (let o = one r.number.0 in let z = cond-true {A = ℕ} (eqb r.number.0 r.number.0) 1 0 (eq-eqb r.number.0 r.number.0 refl) in omega arith),
-  (λ k. (let o = one k in omega arith)),
-)
-
--- in a message that reported `all`, `before` before them: P is what holds of the requests to come
-pub turns_law : (P : List Request → State → Type 0) →
-    ((r : Request) (rs : List Request) (s : State) → Sound s → P (r ∷ rs) s → (0 < r.left.0) × (r.left.0 % s.book.lot ≡ 0) × Fine s (turn s r) × P rs (less (turn s r) s)) →
-    (all : List Report) (rs : List Request) (before : List Report) (l : Ledger) (b : State) → Sound (told l b) → P rs (told l b) → ((k : ℕ) → count a_request rs k ≤ 1) →
+-- in a message that reported `all`, `before` before them
+pub turns_law : (all : List Report) (rs : List Request) (before : List Report) (l : Ledger) (b : State) → Sound (told l b) → Due rs (told l b) →
     AllByRecursion (λ (r : Request). fills_by r.number.0 before ≡ []) rs → all ≡ before ++ one_by_one turn rs (told l b) → Turns b.book.lot all l rs (one_by_one turn rs (told l b))
 unfolding one_by_one
-turns_law P each all [] before l b g p one clean is = refl
-turns_law P each all (r ∷ rs) before l b g p one clean is =
-    let h = each r rs (told l b) g p in
+turns_law all [] before l b g p clean is = refl
+turns_law all (r ∷ rs) before l b g p clean is =
+    let h = due_step r rs (told l b) g p in
     let n = r.number.0 in
     let mine = turn (told l b) r in
     let others = one_by_one turn rs (less mine (told l b)) in
     let e = told_less l b mine in
-    let d = different r rs one in
+    let d = (first_apart a_request r rs p.apart).0 in
     let is' : all ≡ (before ++ mine) ++ one_by_one turn rs (told (with_reports l mine) b) = is ∙ (sym (append_assoc before mine others) ∙ ap (λ (z : State). (before ++ mine) ++ one_by_one turn rs z) e) in (
       mine,
       others,
       refl,
       turn_law l b g r h.0 h.1,
       subst (λ (z : State). Turns b.book.lot all (with_reports l mine) rs (one_by_one turn rs z)) (sym e)
-          (turns_law P each all rs (before ++ mine) (with_reports l mine) b (subst Sound e (less_sound (told l b) mine g h.2.whole)) (subst (P rs) e h.3) d.1
-          (cleaner rs d.0 clean.1) is'),
-      ap (fills_by n) is
-          ∙ (fills_by_append n before (mine ++ others)
-          ∙ (ap₂ (λ (u v : List Fill). u ++ v) clean.0 (fills_by_append n mine others)
-          ∙ (ap (λ (v : List Fill). fills_by n mine ++ v) (turns_others rs (less mine (told l b)) n d.0) ∙ append-nil (fills_by n mine)))),
+          (turns_law all rs (before ++ mine) (with_reports l mine) b (subst Sound e (less_sound (told l b) mine g h.2.whole)) (subst (Due rs) e h.3) (cleaner rs d clean.1) is'),
+      (let o = turns_others rs (less mine (told l b)) n d in let c = clean.0 in grind (arith, fills_by_append, append-nil)),
     )
   where
     cleaner : (qs : List Request) → AllByRecursion (λ (q : Request). q.number.0 ≡ r.number.0 → ⊥) qs → AllByRecursion (λ (q : Request). fills_by q.number.0 before ≡ []) qs →
         AllByRecursion (λ (q : Request). fills_by q.number.0 (before ++ turn (told l b) r) ≡ []) qs
     cleaner [] ne c = tt
-    cleaner (q ∷ qs) ne c = (
-      fills_by_append q.number.0 before (turn (told l b) r) ∙ ap₂ (λ (u v : List Fill). u ++ v) c.0 (turn_others (told l b) r q.number.0 (λ z. ne.0 (sym z))),
-      cleaner qs ne.1 c.1,
-    )
+    cleaner (q ∷ qs) ne c = ((let t = turn_others (told l b) r q.number.0 (λ z. ne.0 (sym z)) in let d = c.0 in grind (arith, fills_by_append)), cleaner qs ne.1 c.1)

@@ -5,7 +5,6 @@ use Rattle.units.specs.declared.side.Side.TheVariants as sides
 use Rattle.ranked.specs.Lists.{ranked}
 use Rattle.ranked.specs.Orders.{lower, expiry_before}
 use Rattle.book.specs.declared.Offer.{Offer}
-use Rattle.draw.specs.declared.offers.Source.TheVariants as sources
 use Rattle.draw.specs.declared.offers.Offered.{Offered}
 use Rattle.draw.specs.declared.offers.Taker.{Taker}
 use Rattle.draw.specs.declared.offers.Eligible.{Eligible}
@@ -74,10 +73,10 @@ in_turn rs = by_number a_request (filter is_automatic rs)
 -- ── what may be drawn on ──
 
 abbrev pub from_book : Side → Offer → Offered
-from_book d o = record { number = o.number; firm = o.firm; side = d; price = o.price; left = o.left; source = sources.Book }
+from_book d o = record { number = o.number; firm = o.firm; side = d; price = o.price; left = o.left; answers_to = None }
 
 abbrev pub from_answer : Answer → Offered
-from_answer a = record { number = a.number; firm = a.firm; side = a.side; price = a.price; left = a.left; source = sources.AnswerTo a.request }
+from_answer a = record { number = a.number; firm = a.firm; side = a.side; price = a.price; left = a.left; answers_to = Some a.request }
 
 -- all that is offered: both sides of the book, and the answers
 abbrev pub offered : List Offer → List Offer → List Answer → List Offered

@@ -1,12 +1,13 @@
 // What a market holds beside its book: the open requests, and the living answers to them.
-ghost use Rattle.std.specs.Prelude.{ℕ};
+ghost use Rattle.std.specs.Prelude.{◌≡◌, ℕ};
+ghost use Rattle.rules.specs.Offers.{from_answer};
 
-use draw::Answering;
+use draw::{Answering, Offered};
 use ranked::{Dated, Named};
 use units::{Firm, FirmCount, Number, Price, Quantity, Side, Time};
 
 // A provider's answer to a request.
-#[derive(Clone, Copy)]
+#[derive(Clone, Copy, Debug, PartialEq, Eq)]
 pub struct Answer {
     pub number: Number,
     pub request: Number,
@@ -17,7 +18,7 @@ pub struct Answer {
 }
 
 // What a request asks for.
-#[derive(Clone, Copy)]
+#[derive(Clone, Copy, Debug, PartialEq, Eq)]
 pub enum Terms {
     // the side, which may be left open, and the minimum units: it waits for its issuer's confirmation
     Manual(Option<Side>, Quantity),
@@ -26,7 +27,7 @@ pub enum Terms {
 }
 
 // An issuer's request. Its deadline may lie past the end of the day; then it never expires.
-#[derive(Clone, Copy)]
+#[derive(Clone, Copy, Debug, PartialEq, Eq)]
 pub struct Request {
     pub number: Number,
     pub firm: Firm,
@@ -66,5 +67,21 @@ impl Answering for Answer {
 
     fn request(&self) -> Number {
         self.request
+    }
+}
+
+// An answer, as requests see it.
+impl From<Answer> for Offered {
+    ghost from_gives = { λ a o. o ≡ from_answer a };
+
+    fn from(answer: Answer) -> Offered {
+        Offered {
+            number: answer.number,
+            firm: answer.firm,
+            side: answer.side,
+            price: answer.price,
+            left: answer.left,
+            answers_to: Some(answer.request),
+        }
     }
 }

@@ -6,7 +6,7 @@ use draw::{Fill, TellsFill};
 use units::{FirmCount, Money, Number, Price, Quantity};
 
 // Why something is killed. Some numbers are those of refusals, and mean something else here.
-#[derive(Clone, Copy)]
+#[derive(Clone, Copy, Debug, PartialEq, Eq)]
 pub enum KillReason {
     // the rest of a request that was confirmed or traded by itself
     RequestDone,
@@ -25,7 +25,7 @@ pub enum KillReason {
 }
 
 // A report of a trade or of an end.
-#[derive(Clone, Copy)]
+#[derive(Clone, Copy, Debug, PartialEq, Eq)]
 pub enum Report {
     // the taker, and what it took of which maker at the maker's price
     Fill(Number, Fill),
@@ -33,8 +33,8 @@ pub enum Report {
     Kill(KillReason, Number, Quantity),
 }
 
-// A report as its six numbers: kind 1 is a fill, for no reason; kind 2 is a kill, with neither maker nor price.
-#[derive(Clone, Copy)]
+// A report as its six numbers, the form in which a host is told it: kind 1 is a fill, for no reason; kind 2 is a kill, with neither maker nor price.
+#[derive(Clone, Copy, Debug, PartialEq, Eq)]
 pub struct ReportLine {
     pub kind: u8,
     pub reason: u8,
@@ -44,11 +44,12 @@ pub struct ReportLine {
     pub price: Price,
 }
 
-impl KillReason {
-    pub fn number(self) -> u8
-        ensures { result ≡ reason_number self }
-    {
-        match self {
+// The number of a kill reason.
+impl From<KillReason> for u8 {
+    ghost from_gives = { λ r n. n ≡ reason_number r };
+
+    fn from(reason: KillReason) -> u8 {
+        match reason {
             KillReason::RequestDone => 21,
             KillReason::AnswerDone => 22,
             KillReason::RequestWithdrawn => 14,
@@ -60,11 +61,11 @@ impl KillReason {
     }
 }
 
-impl Report {
-    pub fn line(self) -> ReportLine
-        ensures { result ≡ line_of self }
-    {
-        match self {
+impl From<Report> for ReportLine {
+    ghost from_gives = { λ r l. l ≡ line_of r };
+
+    fn from(report: Report) -> ReportLine {
+        match report {
             Report::Fill(by, fill) => ReportLine {
                 kind: 1,
                 reason: 0,
@@ -75,7 +76,7 @@ impl Report {
             },
             Report::Kill(reason, number, left) => ReportLine {
                 kind: 2,
-                reason: reason.number(),
+                reason: u8::from(reason),
                 taker: number,
                 maker: Number(0),
                 quantity: left,
@@ -93,8 +94,8 @@ impl TellsFill for Report {
     }
 }
 
-// What an accepted message is answered: the number given, or 0; the count of its reports; size and money of all that it traded.
-#[derive(Clone, Copy)]
+// What an accepted message is answered, in the form in which a host is told it: the number given, or 0; the count of its reports; size and money of all that it traded.
+#[derive(Clone, Copy, Debug, PartialEq, Eq)]
 pub struct Accepted {
     pub number: Number,
     pub count: usize,
@@ -103,7 +104,7 @@ pub struct Accepted {
 }
 
 // What a request could draw now, how many different firms answer it, and the price shown.
-#[derive(Clone, Copy)]
+#[derive(Clone, Copy, Debug, PartialEq, Eq)]
 pub struct Status {
     pub size: Quantity,
     pub money: Money,

@@ -7,38 +7,30 @@ ghost use Rattle.rules.specs.Sound.{SoundIsKept, SoundSuffices};
 ghost use Rattle.rules.specs.Takes.{BookDoes};
 
 // The worked examples, of the definitions, on a seat that can be opened; and every message's checks run in the order of their numbers.
-pub fn examples_come_out() -> u8
+pub fn examples_come_out()
     ensures examples { Marked }
     ensures seat { SeatOpens }
     ensures order { InTableOrder }
-{
-    0
-}
+{}
 
 // The law of runs: of every run from an opening, for any messages; and of one message more after any history.
-pub fn runs_are_lawful() -> u8
+pub fn runs_are_lawful()
     ensures runs { RunsAreLawful }
     ensures step { StepIsLawful }
-{
-    0
-}
+{}
 
 // The law leaves no choice, and wrong engines break it.
-pub fn the_law_bites() -> u8
+pub fn the_law_bites()
     ensures choice { NoChoice }
     ensures history { OneHistory }
     ensures wrong { BadBreaks }
     ensures held { HeldBreaks }
-{
-    0
-}
+{}
 
 // What an engine over a book relies on: soundness is kept and suffices, a take is a fill and a removal a kill, and the reports of a message have room.
-pub fn engines_can_follow() -> u8
+pub fn engines_can_follow()
     ensures sound { SoundIsKept }
     ensures suffices { SoundSuffices }
     ensures book { BookDoes }
     ensures room { RoomForReports }
-{
-    0
-}
+{}
