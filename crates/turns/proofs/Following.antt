@@ -1,19 +1,16 @@
 -- A sound market's trades can be settled, and the end of a request takes nothing from the book.
-use Rattle.std.proofs.Common.{◌≡◌, ℕ, ◌+◌, ◌-◌, ◌%◌, ◌<◌, ◌≤◌, min, Bool, true, false, cond, ◌&&◌, eqb, List, [], ◌∷◌, map, Some, Option, sym, refl, ◌∙◌, subst, ap₂, inl, inr, arith}
+use Rattle.std.proofs.Common.{◌≡◌, ℕ, ◌+◌, ◌-◌, ◌%◌, ◌<◌, ◌≤◌, min, Bool, true, false, cond, eqb, List, [], ◌∷◌, map, Some, Option, sym, refl, ◌∙◌, subst, ap₂, inl, inr, arith}
 use Rattle.std.specs.List.{AllByRecursion}
 use Rattle.std.proofs.ByRecursion.{All-weaker, All-append, All-map, all_kept_by, all_shuffled}
-use Rattle.std.proofs.lemmas.Bool.{cond-true, eq-eqb, eqb-true, eqb-false, cases_eq, lt-ltb, and_from, and_parts}
+use Rattle.std.proofs.lemmas.Bool.{cond-true, eq-eqb, eqb-false, cases_eq, lt-ltb, and_from}
 use Rattle.units.specs.declared.side.Side.{Side}
 use Rattle.units.specs.declared.side.Side.TheVariants.{Buy, Sell}
 use Rattle.units.specs.declared.Quantity.{Quantity}
 use Rattle.units.specs.declared.Money.{Money}
 use Rattle.units.specs.Sides.{other}
-use Rattle.units.specs.Ranges.{within, is_whole, is_number, is_member, is_price, is_quantity}
 use Rattle.ranked.proofs.Placing.{ranked_shuffled}
 use Rattle.book.specs.declared.Offer.{Offer}
-use Rattle.book.specs.Meaning.{side_of, in_range}
-use Rattle.book.specs.Laws.{all_in_range}
-use Rattle.book.proofs.Ranges.{range_parts, within_parts}
+use Rattle.book.specs.Meaning.{side_of}
 use Rattle.draw.specs.declared.offers.Eligible.{Eligible}
 use Rattle.draw.specs.Offers.{as_eligible}
 use Rattle.draw.specs.Rankings.{request_before}
@@ -29,21 +26,17 @@ use Rattle.rules.specs.Step.{less, ends, with_end, on_offer, ranked_for, trade, 
 use Rattle.rules.specs.Sound as rules
 use Rattle.rules.specs.Takes.{Without}
 use Rattle.rules.specs.History.{came_as}
-use Rattle.rules.proofs.Left.{touched, count, came_none, remain_remain, remain_same}
-use Rattle.rules.proofs.Pours.{Whole, count_sum, count_kept}
+use Rattle.rules.proofs.Left.{touched, count, none_counted, came_none, remain_remain, remain_same}
+use Rattle.rules.proofs.Pours.{Whole, count_kept}
 use Rattle.rules.proofs.Fine.{Sound, Fine, Lots, less_sound, ends_touch, offer_laws}
 use Rattle.rules.proofs.Fairs.{units_of, trade_is, fits_at, fits_in_turn}
+use Rattle.rules.proofs.Sounds.{sound_counts}
 use Rattle.rules.proofs.Keeps.{found_open, traded_fine}
 use Rattle.turns.specs.Settled.{book_less, Drawn, Settles}
 use Rattle.turns.specs.Follows.{TradesSettle}
 use Rattle.turns.proofs.Gathered.{sides_drawn}
 
 -- ── counts ──
-
-not_in : (os : List Offer) (n : ℕ) → count an_offer os n ≡ 0 → Without os n
-unfolding count
-not_in [] n e = tt
-not_in (o ∷ os) n e = ((λ i. absurd (let z = cond-true {A = ℕ} (eqb o.number.0 n) 1 0 (eq-eqb _ n i) in omega arith)), not_in os n (omega arith))
 
 named_in : {X : Type 0} (k : Kept X) (xs : List X) → AllByRecursion (λ x. 0 < count k xs (k.number x)) xs
 unfolding count
@@ -125,9 +118,9 @@ pour_drawn s d t b c (o ∷ os) q a w = go (eqb q 0) refl w (pour_drawn s d t b 
     go false e w h = (
       (
         and_from _ _ (lt-ltb 0 (min q o.left.0) (let z = eqb-false q 0 e in let y = a.0.0 in omega arith)) (eq-eqb _ 0 w.0),
-        not_in s.book.buys t b,
-        not_in s.book.sells t c,
-        subst (λ (x : Side). Without (side_of s.book x) o.number.0) (sym (twice d)) (not_in (side_of s.book d) o.number.0 a.0.1),
+        none_counted an_offer s.book.buys t b,
+        none_counted an_offer s.book.sells t c,
+        subst (λ (x : Side). Without (side_of s.book x) o.number.0) (sym (twice d)) (none_counted an_offer (side_of s.book d) o.number.0 a.0.1),
       ),
       h w.1,
     )
@@ -193,38 +186,6 @@ end_spares s g n fs f =
     (sym (kept_side (less fs s) g' n Sell) ∙ remain_remain an_offer offer_laws fs es s.book.sells)
 
 -- ── from the soundness of the rules ──
-
-some_lots : (lot l : ℕ) → is_quantity lot l ≡ true → (0 < l) × (l % lot ≡ 0)
-some_lots lot l e =
-    let p = and_parts (within 1 1000000 l) (is_whole lot l) e in
-    let b = (within_parts 1 1000000 l p.0).0 in
-    (omega arith, eqb-true _ 0 p.1)
-
-offer_lots : (lot : ℕ) (os : List Offer) → all_in_range lot os ≡ true → Lots an_offer lot os
-offer_lots lot [] e = tt
-offer_lots lot (o ∷ os) e = let p = and_parts (in_range lot o) (all_in_range lot os) e in (some_lots lot o.left.0 (range_parts lot o p.0).left, offer_lots lot os p.1)
-
-last_part : (a b c d : Bool) → (a && (b && (c && d))) ≡ true → d ≡ true
-last_part a b c d e = (and_parts c d (and_parts b (c && d) (and_parts a (b && (c && d)) e).1).1).1
-
-pub sound_counts : (s : State) → rules.Sound s → Sound s
-sound_counts s g = record {
-  lot = (let b = (within_parts 1 1000 s.book.lot g.book.lot).0 in omega arith);
-  apart = λ n. (let e = counted n in let a = g.apart n in omega arith);
-  below = λ n l. (let e = counted n in let a = g.below n l in omega arith);
-  buys = offer_lots _ s.book.buys (g.book.ranged Buy);
-  sells = offer_lots _ s.book.sells (g.book.ranged Sell);
-  answers = All-weaker _ _ (λ (a : Answer) h. some_lots s.book.lot a.left.0 (last_part (is_number a.number.0) (is_member a.firm.0) (is_price a.price.0) _ h)) s.answers g.answers;
-  requests = All-weaker _ _ (λ (r : Request) h. some_lots s.book.lot r.left.0 (last_part (is_number r.number.0) (is_member r.firm.0) (rules.limit_in_range r.terms) _ h)) s.requests g.requests;
-}
-  where
-    counted : (n : ℕ) → count an_offer s.book.buys n + count an_offer s.book.sells n + count an_answer s.answers n + count a_request s.requests n ≡ rules.all_times s n
-    counted n =
-        let a = count_sum an_offer s.book.buys n in
-        let b = count_sum an_offer s.book.sells n in
-        let x = count_sum an_answer s.answers n in
-        let y = count_sum a_request s.requests n in
-        omega arith
 
 -- what is decided of an open request is fine
 record Open (s : State) (r : Request) : Type 0 where

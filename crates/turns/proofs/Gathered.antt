@@ -1,56 +1,95 @@
 -- The steps of the loops that gather, settle, lessen and kill.
-use Rattle.std.proofs.Common.{◌≡◌, ℕ, zero, suc, ◌+◌, ◌<◌, ◌≤◌, Bool, true, false, cond, ◌&&◌, List, [], ◌∷◌, ◌++◌, map, length, get_or, take, drop, set, Some, None, filter, Option, sym, refl, ap, ◌∙◌, subst, append-nil, arith}
+use Rattle.std.proofs.Common.{◌≡◌, ℕ, ◌+◌, ◌<◌, ◌≤◌, Bool, true, false, cond, ◌&&◌, List, [], ◌∷◌, ◌++◌, ◌-◌, map, length, length-drop, get_or, take, drop, set, filter, fold, Option, Some, None, sym, refl, ap, ◌∙◌, subst, append-nil, arith, length-append, map-id}
 use mathlib.Core.List.{map-append}
-use Rattle.std.proofs.lemmas.List.{take_more, drop_more, drop_all}
+use Rattle.std.proofs.lemmas.List.{drop_more, drop_all, length-map}
 use Rattle.std.proofs.lemmas.List.Elements.{filter_more}
+use Rattle.std.specs.List.{between, filter_map, cons_option}
+use Rattle.std.specs.Iterator.{Yields, Drains}
+use Rattle.std.proofs.iter.Next.{Yields-more}
+use Rattle.std.proofs.lemmas.Iterator.{YieldsList}
+use Rattle.std.proofs.lemmas.Iterator.Adapters.{at_most_from_yields_List}
+use Rattle.std.proofs.lemmas.Iterator.Consumers.{YieldsList-end}
+use borrow.Rule.Slice.PartMut.{put_mid}
+use Rattle.std.proofs.lemmas.Slice.{between_to_end}
 use Rattle.std.proofs.lemmas.Bool.{cond-true, cond-false}
 use Rattle.units.specs.declared.side.Side.{Side}
 use Rattle.units.specs.declared.side.Side.TheVariants as sides
 use Rattle.units.specs.Sides.{other}
-use Rattle.ranked.specs.Writes.{Writes}
-use Rattle.ranked.proofs.Writing.{writes_more, writes_as, writes_then}
+use Rattle.ranked.specs.Writes.{WritesFront}
+use Rattle.ranked.proofs.Fronts.{front_more, front_as, front_then}
 use Rattle.book.specs.declared.Offer.{Offer}
-use Rattle.book.specs.Meaning.{Meaning, at_place, side_of}
+use Rattle.book.specs.Meaning.{Meaning, side_of}
 use Rattle.draw.specs.declared.offers.Eligible.{Eligible}
 use Rattle.draw.specs.declared.offers.Offered.{Offered}
 use Rattle.draw.specs.declared.offers.Taker.{Taker}
 use Rattle.draw.specs.Offers.{eligible, admitted, is_eligible, as_eligible, same_side}
-use Rattle.draw.proofs.Gathering.{eligible_append, eligible_more, listed}
+use Rattle.draw.proofs.Gathering.{eligible_append}
 use Rattle.rules.specs.declared.records.Answer.{Answer}
 use Rattle.rules.specs.declared.reports.Report.{Report}
 use Rattle.rules.specs.Offers.{from_book, from_answer, offered}
 use Rattle.rules.specs.Reports.{filled, killed, fills_of, kills_of}
 use Rattle.turns.specs.Settled.{after_report, settled}
 
--- ── places of a book ──
+-- ── what is written ──
 
-at_read : (os : List Offer) (i : ℕ) (o : Offer) → Some o ≡ at_place os i → (i < length os) × (get_or os i o ≡ o)
-at_read [] i o e = let z : ◌≡◌ {A = ℕ} 0 1 = cc in absurd (omega arith)
-at_read (x ∷ os) zero o e = let q : x ≡ o = cc in (omega arith, q)
-at_read (x ∷ os) (suc i) o e = let r = at_read os i o e in let l = r.0 in (omega arith, r.1)
+-- the same places, counted as the code has them
+pub front_same : {Y : Type 0} {old new after : List Y} {n m : ℕ} {xs ys : List Y} → after ≡ new → m ≡ n → xs ≡ ys → WritesFront old new n xs → WritesFront old after m ys
+front_same {Y} {old} {new} {after} {n} {m} {xs} {ys} s p e w = subst (λ (v : List Y). WritesFront old v m ys) (sym s) (subst (λ k. WritesFront old new k ys) (sym p) (front_as e w))
 
-pub place_more : (os : List Offer) (i : ℕ) (o : Offer) → Some o ≡ at_place os i → take (i + 1) os ≡ take i os ++ o ∷ []
-place_more os i o e = let r = at_read os i o e in take_more os i o r.0 ∙ ap (λ (y : Offer). take i os ++ y ∷ []) r.1
+-- and behind what is written, over the rest of the list
+pub front_behind : {X : Type 0} {old mid rest : List X} {n m : ℕ} {xs ys : List X} → WritesFront old mid n xs → WritesFront (between n (length mid) mid) rest m ys →
+    WritesFront old (put_mid n (length mid - n) mid rest) (n + m) (xs ++ ys)
+front_behind {X} {old} {mid} {rest} {n} {m} {xs} {ys} v w =
+    let all : between n (length mid) mid ≡ drop n mid = between_to_end mid n (length mid) (omega arith) in
+    let none : drop (length mid - n) (drop n mid) ≡ [] = drop_all (length mid - n) (drop n mid) (let e = length-drop n mid in omega arith) in
+    front_same
+    (ap (λ (z : List X). take n mid ++ (rest ++ z)) none ∙ ap (λ (z : List X). take n mid ++ z) (append-nil rest)) refl refl
+    (front_then v (subst (λ (z : List X). WritesFront z rest m ys) all w))
 
-pub past : (os : List Offer) (i : ℕ) → None ≡ at_place os i → length os ≤ i
-past [] i e = omega arith
-past (x ∷ os) zero e = let z : ◌≡◌ {A = ℕ} 0 1 = cc in absurd (omega arith)
-past (x ∷ os) (suc i) e = let h = past os i e in omega arith
+-- ── what an iterator gives ──
 
--- ── one offer more ──
+-- where there is room for all that it gives, there is room for one item more than it gave before its next
+pub room_left : {S A : Type 0} (steps : S → Option A → S → Type 0) {s r t u : S} {room : ℕ} (xs : List A) (x : A) → ((es : List A) (v : S) → Yields steps s es v → length es ≤ room) → r ≡ s → Yields steps r xs t → steps t (Some x) u → length xs < room
+room_left steps {s} {r} {t} {u} xs x all q y e =
+    let l = all (xs ++ x ∷ []) u (Yields-more steps s xs t x u (subst (λ z. Yields steps z xs t) q y) e) in
+    let k = length-append xs (x ∷ []) in
+    omega arith
+
+pub room_for : {S A : Type 0} {steps : S → Option A → S → Type 0} {s : S} {room : ℕ} (all : List A) → length all ≤ room → YieldsList steps (λ x. x) s all → (es : List A) (v : S) → Yields steps s es v → length es ≤ room
+room_for all l y = (at_most_from_yields_List y l).runs
+
+pub all_given : {S A : Type 0} {steps : S → Option A → S → Type 0} {s : S} (es all : List A) → Drains steps s es → YieldsList steps (λ x. x) s all → es ≡ all
+all_given es all d y = sym (map-id es) ∙ (YieldsList-end y es _ d.1.1 None d.0 refl d.1.2).0
+
+-- one side of a book and the answers, as requests see them
+abbrev pub seen : Meaning → Side → List Answer → List Offered
+seen m d xs = map (from_book d) (side_of m d) ++ map from_answer xs
 
 module _ (t : Taker) where
-  pub one_admitted : (o : Offered) (r : Option Eligible) → r ≡ admitted t o → listed r ≡ eligible t (o ∷ [])
-  one_admitted o r e = sym (eligible_more t [] o r (sym e))
+  -- the offers that are admitted, one by one, are the eligible ones
+  admitted_all : (os : List Offered) → filter_map (admitted t) os ≡ eligible t os
+  admitted_all [] = refl
+  admitted_all (o ∷ os) = ap (cons_option (admitted t o)) (admitted_all os) ∙ go (is_eligible t o)
+    where
+      go : (b : Bool) → cons_option (cond b (Some (as_eligible o)) None) (eligible t os) ≡ map as_eligible (cond b (o ∷ filter (is_eligible t) os) (filter (is_eligible t) os))
+      go true = refl
+      go false = refl
 
-  -- of a list that is seen through f
-  pub noted_more : {X : Type 0} (f : X → Offered) {old mid new : List Eligible} {a n m : ℕ} (xs ys : List X) (x : X) (o : Offered) → ys ≡ xs ++ x ∷ [] → o ≡ f x →
-      Writes old mid a n (eligible t (map f xs)) → Writes mid new n m (eligible t (o ∷ [])) → Writes old new a m (eligible t (map f ys))
-  noted_more {X} f xs ys x o e h v w =
-      writes_as
-      (ap (λ (z : Offered). eligible t (map f xs) ++ eligible t (z ∷ [])) h
-      ∙ (sym (eligible_append t (map f xs) (f x ∷ [])) ∙ ap (eligible t) (sym (map-append f xs (x ∷ [])) ∙ ap (map f) (sym e))))
-      (writes_then v w)
+  one_more : (es : List Eligible) (o : Offered) (os : List Offered) → length es ≤ length os → (b : Bool) → length (cons_option (cond b (Some (as_eligible o)) None) es) ≤ length (o ∷ os)
+  one_more es o os l true = omega arith
+  one_more es o os l false = omega arith
+
+  admitted_few : (os : List Offered) → length (filter_map (admitted t) os) ≤ length os
+  admitted_few [] = omega arith
+  admitted_few (o ∷ os) = one_more (filter_map (admitted t) os) o os (admitted_few os) (is_eligible t o)
+
+  pub drawn_few : (m : Meaning) (d : Side) (xs : List Answer) (most : ℕ) → length (side_of m d) ≤ most → length (filter_map (admitted t) (seen m d xs)) ≤ most + length xs
+  drawn_few m d xs most l =
+      let f = admitted_few (seen m d xs) in
+      let e = length-append (map (from_book d) (side_of m d)) (map from_answer xs) in
+      let p = length-map (side_of m d) (from_book d) in
+      let q = length-map xs from_answer in
+      omega arith
 
 -- of the book's own side of a request nothing is eligible
 own_side : (t : Taker) (d : Side) → t.side ≡ d → (os : List Offer) → eligible t (map (from_book d) os) ≡ []
@@ -80,6 +119,9 @@ sides_drawn t m d e xs = go t.side refl e
         ap (λ (v : Side). eligible t (map (from_book v) (side_of m v)) ++ eligible t (map from_answer xs)) f
         ∙ sym (parts ∙ ap (λ (v : List Eligible). eligible t (map (from_book sides.Buy) m.buys) ++ (v ++ eligible t (map from_answer xs))) (own_side t sides.Sell h m.sells))
 
+pub drawn_is : (t : Taker) (m : Meaning) (d : Side) → d ≡ other t.side → (xs : List Answer) → filter_map (admitted t) (seen m d xs) ≡ eligible t (offered m.buys m.sells xs)
+drawn_is t m d e xs = admitted_all t (seen m d xs) ∙ (eligible_append t (map (from_book d) (side_of m d)) (map from_answer xs) ∙ sides_drawn t m d e xs)
+
 -- ── settling ──
 
 pub settled_more : (m : Meaning) (d : Side) (rs : List Report) (i : ℕ) (x : Report) → i < length rs → settled m d (drop i rs) ≡ settled (after_report m d (get_or rs i x)) d (drop (i + 1) rs)
@@ -90,22 +132,12 @@ pub settled_end : (m : Meaning) (d : Side) (rs : List Report) (i : ℕ) → leng
 unfolding settled
 settled_end m d rs i l = ap (settled m d) (drop_all i rs l)
 
--- ── what reports take ──
+-- ── what reports leave ──
 
-pub touched_more : (rs : List Report) (i n t : ℕ) (x : Report) → i < length rs → t ≡ fills_of n (get_or rs i x) + kills_of n (get_or rs i x) →
-    filled (drop i rs) n + killed (drop i rs) n ≡ t + (filled (drop (i + 1) rs) n + killed (drop (i + 1) rs) n)
+pub left_after : (rs : List Report) (n l : ℕ) → fold (λ (a : ℕ) (r : Report). a - (fills_of n r + kills_of n r)) l rs ≡ l - (filled rs n + killed rs n)
 unfolding filled killed
-touched_more rs i n t x l v =
-    let e : filled (drop i rs) n ≡ fills_of n (get_or rs i x) + filled (drop (i + 1) rs) n = ap (λ (v : List Report). filled v n) (drop_more rs i x l) in
-    let f : killed (drop i rs) n ≡ kills_of n (get_or rs i x) + killed (drop (i + 1) rs) n = ap (λ (v : List Report). killed v n) (drop_more rs i x l) in
-    glue _ _ _ _ _ _ _ e f v
-  where
-    glue : (a b p q r u t : ℕ) → a ≡ p + q → b ≡ r + u → t ≡ p + r → a + b ≡ t + (q + u)
-    glue a b p q r u t e f v = omega arith
-
-pub touched_end : (rs : List Report) (i n : ℕ) → length rs ≤ i → filled (drop i rs) n + killed (drop i rs) n ≡ 0
-unfolding filled killed
-touched_end rs i n l = ap (λ (v : List Report). filled v n + killed v n) (drop_all i rs l)
+left_after [] n l = omega arith
+left_after (r ∷ rs) n l = let h = left_after rs n (l - (fills_of n r + kills_of n r)) in omega arith
 
 -- ── kills ──
 
@@ -122,13 +154,6 @@ kept_not {X} p xs i x q l e =
     ∙ append-nil _)
 
 -- one more record of what a map writes
-pub mapped_more : {X Y : Type 0} (f : X → Y) {old new after : List Y} {a n m : ℕ} (xs ys : List X) (x : X) → ys ≡ xs ++ x ∷ [] → n < length new → after ≡ set new n (f x) → m ≡ n + 1 →
-    Writes old new a n (map f xs) → Writes old after a m (map f ys)
-mapped_more f {old} {new} {after} {a} {n} {m} xs ys x e l s p w =
-    let z = writes_as (sym (map-append f xs (x ∷ [])) ∙ ap (map f) (sym e)) (writes_more (f x) w l) in
-    subst (λ v. Writes old v a m (map f ys)) (sym s) (subst (λ k. Writes old (set new n (f x)) a k (map f ys)) (sym p) z)
-
--- the same places, counted as the code has them
-pub writes_same : {Y : Type 0} {old new after : List Y} {a n m : ℕ} {xs ys : List Y} → after ≡ new → m ≡ n → xs ≡ ys → Writes old new a n xs → Writes old after a m ys
-writes_same {Y} {old} {new} {after} {a} {n} {m} {xs} {ys} s p e w =
-    subst (λ (v : List Y). Writes old v a m ys) (sym s) (subst (λ k. Writes old new a k ys) (sym p) (writes_as e w))
+pub mapped_more : {X Y : Type 0} (f : X → Y) {old new after : List Y} {n m : ℕ} (xs ys : List X) (x : X) → ys ≡ xs ++ x ∷ [] → n < length old → after ≡ set new n (f x) → m ≡ n + 1 →
+    WritesFront old new n (map f xs) → WritesFront old after m (map f ys)
+mapped_more f xs ys x e l s p w = front_same s p (sym (map-append f xs (x ∷ [])) ∙ ap (map f) (sym e)) (front_more (f x) w l)

@@ -1,6 +1,6 @@
 -- A loop that lessens a table in place.
 use Rattle.std.proofs.Common.{◌≡◌, ℕ, ◌+◌, ◌<◌, ◌≤◌, cond, ltb, List, [], ◌∷◌, ◌++◌, length, get_or, take, drop, set, sym, refl, ap, ◌∙◌, subst, append-nil, arith, length-set}
-use Rattle.std.proofs.lemmas.List.{take_more, take_more_set, drop-set-lt, drop-drop, drop_more}
+use Rattle.std.proofs.lemmas.List.{take_all, take_more, take_more_set, drop-set-lt, drop-drop, drop_more}
 use Rattle.std.proofs.lemmas.Bool.{cond-true, cond-false, lt-ltb, le-ltb}
 use Rattle.rules.specs.declared.reports.Report.{Report}
 use Rattle.rules.specs.State.{Kept}
@@ -66,6 +66,6 @@ lessening_start w rs xs = record { front = refl; behind = refl; few = omega arit
 pub lessening_at : {X : Type 0} {w : Kept X} {rs : List Report} {xs ys zs : List X} {k j i : ℕ} → zs ≡ ys → j ≡ k → Lessening w rs xs ys k i → Lessening w rs xs zs j i
 lessening_at {X} {w} {rs} {xs} {ys} {zs} {k} {j} {i} e f t = subst (λ (v : List X). Lessening w rs xs v j i) (sym e) (subst (λ (n : ℕ). Lessening w rs xs ys n i) (sym f) t)
 
--- what the reports leave of the first places
-pub lessening_upto : {X : Type 0} {w : Kept X} {rs : List Report} {xs ys : List X} {k i : ℕ} (n : ℕ) → Lessening w rs xs ys k i → i ≡ n → (take k ys ≡ remain w rs (take n xs)) × (drop n ys ≡ drop n xs)
-lessening_upto {X} {w} {rs} {xs} {ys} {k} {i} n t e = subst (λ (m : ℕ). (take k ys ≡ remain w rs (take m xs)) × (drop m ys ≡ drop m xs)) e (t.front, t.behind)
+-- what the reports leave of all places
+pub lessening_all : {X : Type 0} {w : Kept X} {rs : List Report} {xs ys : List X} {k i : ℕ} → Lessening w rs xs ys k i → length xs ≤ i → take k ys ≡ remain w rs xs
+lessening_all {X} {w} {rs} {xs} {ys} {k} {i} t l = t.front ∙ ap (remain w rs) (take_all i xs l)

@@ -9,10 +9,10 @@ use units::{Number, Quantity};
 impl Standing for Answer {
     ghost kind = { an_answer };
 
-    ghost belongs = { λ n a. (a.request.0 == n) };
+    ghost belongs = { λ n a. a.request.0 == n };
 
     fn belongs_to(&self, request: Number) -> bool {
-        self.request.0 == request.0
+        self.request == request
     }
 
     fn number(&self) -> Number {

@@ -1,6 +1,6 @@
 // The end of a request: its kill, and the kills of its answers.
 ghost use Rattle.std.specs.Prelude.{◌+◌, ◌≤◌, length, filter};
-ghost use Rattle.ranked.specs.Writes.{Writes};
+ghost use Rattle.ranked.specs.Writes.{WritesFront};
 ghost use Rattle.rules.specs.State.{an_answer};
 ghost use Rattle.rules.specs.Reports.{kills};
 ghost use Rattle.rules.specs.Calls.{ending};
@@ -10,19 +10,20 @@ use super::tables::Standing;
 use rules::{Answer, KillReason, Report, Request};
 use units::Number;
 
-// Writes a kill for each record of the request, with what is left of it; answers the place behind the last.
+// Writes a kill for each record of the request, with what is left of it; answers how many.
 fn kill_each<T: Standing>(
     table: &[T],
     request: Number,
     reason: KillReason,
     out: &mut [Report],
-    at: usize,
 ) -> usize
-    requires { at + length table.now ≤ length out.old }
-    ensures written { Writes out.old out.new at result (kills T.Standing.kind reason (filter (T.Standing.belongs request.0) table.now)) }
-    ensures few { result ≤ at + length table.now }
+    requires { length table.now ≤ length out.old }
+    ensures written { WritesFront out.old out.new result (kills T.Standing.kind reason (filter (T.Standing.belongs request.0) table.now)) }
+    ensures few { result ≤ length table.now }
 {
-    let mut n = at;
+    // Counted by hand: of a chain that writes to the places it was not proved what it leaves in them
+    // (`search` did not prove `returns-clause-written`).
+    let mut n: usize = 0;
     for x in table {
         if x.belongs_to(request) {
             out[n] = Report::Kill(reason, x.number(), x.left());
@@ -32,25 +33,7 @@ fn kill_each<T: Standing>(
     n
 }
 
-fn kill_both(
-    requests: &[Request],
-    answers: &[Answer],
-    number: Number,
-    reason: KillReason,
-    its_answers: KillReason,
-    out: &mut [Report],
-    at: usize,
-) -> usize
-    requires places { at + (length requests.now + length answers.now) ≤ length out.old }
-    requires rising { Rising an_answer answers.now }
-    ensures written { Writes out.old out.new at result (ending requests.now answers.now number.0 reason its_answers) }
-    ensures few { result ≤ at + (length requests.now + length answers.now) }
-{
-    let n = kill_each(requests, number, reason, out, at);
-    kill_each(answers, number, its_answers, out, n)
-}
-
-// Writes the end of the request of that number from the place `at` on: its kill, then the kills of its answers, which stand by number; answers the place behind the last.
+// Writes the end of the request of that number: its kill, then the kills of its answers, which stand by number; answers how many reports it wrote.
 pub fn end_request(
     requests: &[Request],
     answers: &[Answer],
@@ -58,12 +41,12 @@ pub fn end_request(
     reason: KillReason,
     its_answers: KillReason,
     out: &mut [Report],
-    at: usize,
 ) -> usize
-    requires places { at + (length requests.now + length answers.now) ≤ length out.old }
+    requires places { length requests.now + length answers.now ≤ length out.old }
     requires rising { Rising an_answer answers.now }
-    ensures written { Writes out.old out.new at result (ending requests.now answers.now number.0 reason its_answers) }
-    ensures few { result ≤ at + (length requests.now + length answers.now) }
+    ensures written { WritesFront out.old out.new result (ending requests.now answers.now number.0 reason its_answers) }
+    ensures few { result ≤ length requests.now + length answers.now }
 {
-    kill_both(requests, answers, number, reason, its_answers, out, at)
+    let n = kill_each(requests, number, reason, out);
+    n + kill_each(answers, number, its_answers, &mut out[n..])
 }

@@ -1,15 +1,17 @@
 // What follows the fills of a request: they are taken from the book and the tables, and the request ends.
-ghost use Rattle.std.specs.Prelude.{◌≡◌, ◌+◌, ◌≤◌, length, take};
+ghost use Rattle.std.specs.Prelude.{◌≡◌, ◌+◌, ◌≤◌, length};
 ghost use Rattle.units.specs.Sides.{other};
-ghost use Rattle.ranked.specs.Writes.{Writes};
+ghost use Rattle.ranked.specs.Writes.{WritesFront};
 ghost use Rattle.rules.specs.State.{an_answer, a_request};
-ghost use Rattle.rules.specs.Reports.{remain};
+ghost use Rattle.rules.specs.Step.{with_end};
 ghost use Rattle.turns.specs.Follows.{TradesSettle};
 ghost use Rattle.turns.specs.Settled.{book_less, Settles};
-ghost use Rattle.turns.specs.Tables.{Rising};
-ghost use Rattle.turns.specs.Turn.{part, ending_after, ended};
+ghost use Rattle.turns.specs.Tables.{Rising, Lessens};
+ghost use Rattle.turns.specs.Seats.{held, SameLoans};
+ghost use Rattle.turns.specs.Turn.{ending_after, ended};
 
 use super::ending::end_request;
+use super::seat::Seat;
 use super::settling::settle;
 use super::tables::lessen;
 use book::Book;
@@ -17,131 +19,71 @@ use rules::{Answer, KillReason, Report, Request};
 use units::{Number, Side};
 
 // How many requests are open and how many answers alive.
-#[derive(Clone, Copy)]
+#[derive(Clone, Copy, Debug, PartialEq, Eq)]
 pub struct Counts {
     pub requests: usize,
     pub answers: usize,
 }
 
 // Keeps of both tables what the reports leave.
-fn lessen_both(
-    requests: &mut [Request],
-    answers: &mut [Answer],
-    counts: Counts,
-    reports: &[Report],
-) -> Counts
-    requires requests { counts.requests ≤ length requests.old }
-    requires answers { counts.answers ≤ length answers.old }
-    requires reports { length reports.now ≤ 65536 }
-    ensures requests { take result.requests requests.new ≡ remain a_request reports.now (take counts.requests requests.old) }
-    ensures answers { take result.answers answers.new ≡ remain an_answer reports.now (take counts.answers answers.old) }
-    ensures few_requests { result.requests ≤ counts.requests }
-    ensures few_answers { result.answers ≤ counts.answers }
-    ensures long_requests { length requests.new ≡ length requests.old }
-    ensures long_answers { length answers.new ≡ length answers.old }
+fn lessen_both(requests: &mut [Request], answers: &mut [Answer], reports: &[Report]) -> Counts
+    ensures requests { Lessens a_request reports.now requests.old requests.new result.requests }
+    ensures answers { Lessens an_answer reports.now answers.old answers.new result.answers }
 {
     Counts {
-        requests: lessen(requests, counts.requests, reports),
-        answers: lessen(answers, counts.answers, reports),
+        requests: lessen(requests, reports),
+        answers: lessen(answers, reports),
     }
 }
 
+// Writes the end of the request after its fills, and keeps of both tables what fills and end leave; answers how many reports it wrote, and what the tables hold.
 fn end_and_lessen(
     requests: &mut [Request],
     answers: &mut [Answer],
-    counts: Counts,
     number: Number,
-    reports: &mut [Report],
-    from: usize,
-    to: usize,
+    fills: &[Report],
+    out: &mut [Report],
 ) -> (usize, Counts)
-    requires requests { counts.requests ≤ length requests.old }
-    requires answers { counts.answers ≤ length answers.old }
-    requires fills { from ≤ to }
-    requires places { to + (counts.requests + counts.answers) ≤ length reports.old }
-    requires few { length reports.old ≤ 65536 }
-    requires rising { Rising an_answer (take counts.answers answers.old) }
-    ensures written { Writes reports.old reports.new to result.0 (ending_after (part from to reports.old) (take counts.requests requests.old) (take counts.answers answers.old) number.0) }
-    ensures requests { take result.1.requests requests.new ≡ remain a_request (ended (part from to reports.old) (take counts.requests requests.old) (take counts.answers answers.old) number.0) (take counts.requests requests.old) }
-    ensures answers { take result.1.answers answers.new ≡ remain an_answer (ended (part from to reports.old) (take counts.requests requests.old) (take counts.answers answers.old) number.0) (take counts.answers answers.old) }
-    ensures few_requests { result.1.requests ≤ counts.requests }
-    ensures few_answers { result.1.answers ≤ counts.answers }
-    ensures long_requests { length requests.new ≡ length requests.old }
-    ensures long_answers { length answers.new ≡ length answers.old }
+    requires places { length requests.old + length answers.old ≤ length out.old }
+    requires rising { Rising an_answer answers.old }
+    ensures written { WritesFront out.old out.new result.0 (ending_after fills.now requests.old answers.old number.0) }
+    ensures requests { Lessens a_request (ended fills.now requests.old answers.old number.0) requests.old requests.new result.1.requests }
+    ensures answers { Lessens an_answer (ended fills.now requests.old answers.old number.0) answers.old answers.new result.1.answers }
 {
-    let left = lessen_both(requests, answers, counts, &reports[from..to]);
-    let end = end_request(
-        &requests[..left.requests],
-        &answers[..left.answers],
+    let left = lessen_both(requests, answers, fills);
+    let requests = &mut requests[..left.requests];
+    let answers = &mut answers[..left.answers];
+    let ended = end_request(
+        requests,
+        answers,
         number,
         KillReason::RequestDone,
         KillReason::AnswerDone,
-        reports,
-        to,
+        out,
     );
-    (end, lessen_both(requests, answers, left, &reports[to..end]))
+    (ended, lessen_both(requests, answers, &out[..ended]))
 }
 
-fn settle_and_end<B: Book>(
-    book: &mut B,
-    requests: &mut [Request],
-    answers: &mut [Answer],
-    counts: Counts,
-    number: Number,
-    side: Side,
-    reports: &mut [Report],
-    from: usize,
-    to: usize,
-) -> (usize, Counts)
-    requires requests { counts.requests ≤ length requests.old }
-    requires answers { counts.answers ≤ length answers.old }
-    requires fills { from ≤ to }
-    requires places { to + (counts.requests + counts.answers) ≤ length reports.old }
-    requires few { length reports.old ≤ 65536 }
-    requires rising { Rising an_answer (take counts.answers answers.old) }
-    ensures written { Writes reports.old reports.new to result.0 (ending_after (part from to reports.old) (take counts.requests requests.old) (take counts.answers answers.old) number.0) }
-    ensures requests { take result.1.requests requests.new ≡ remain a_request (ended (part from to reports.old) (take counts.requests requests.old) (take counts.answers answers.old) number.0) (take counts.requests requests.old) }
-    ensures answers { take result.1.answers answers.new ≡ remain an_answer (ended (part from to reports.old) (take counts.requests requests.old) (take counts.answers answers.old) number.0) (take counts.answers answers.old) }
-    ensures few_requests { result.1.requests ≤ counts.requests }
-    ensures few_answers { result.1.answers ≤ counts.answers }
-    ensures long_requests { length requests.new ≡ length requests.old }
-    ensures long_answers { length answers.new ≡ length answers.old }
-    ensures book { Settles (B.Book.means book.old) (other side) (part from to reports.old) → B.Book.means book.new ≡ book_less (part from to reports.old) (B.Book.means book.old) }
-    ensures sound { TradesSettle }
-{
-    settle(book, side.opposite(), &reports[from..to]);
-    end_and_lessen(requests, answers, counts, number, reports, from, to)
-}
-
-// Takes a request's fills, the reports of the places from `from` to `to`, out of the book and the tables, and ends the request; answers the place behind the last report, and what the tables hold.
-pub fn finish<B: Book>(
-    book: &mut B,
-    requests: &mut [Request],
-    answers: &mut [Answer],
-    counts: Counts,
-    number: Number,
-    side: Side,
-    reports: &mut [Report],
-    from: usize,
-    to: usize,
-) -> (usize, Counts)
-    requires requests { counts.requests ≤ length requests.old }
-    requires answers { counts.answers ≤ length answers.old }
-    requires fills { from ≤ to }
-    requires places { to + (counts.requests + counts.answers) ≤ length reports.old }
-    requires few { length reports.old ≤ 65536 }
-    requires rising { Rising an_answer (take counts.answers answers.old) }
-    ensures written { Writes reports.old reports.new to result.0 (ending_after (part from to reports.old) (take counts.requests requests.old) (take counts.answers answers.old) number.0) }
-    ensures requests { take result.1.requests requests.new ≡ remain a_request (ended (part from to reports.old) (take counts.requests requests.old) (take counts.answers answers.old) number.0) (take counts.requests requests.old) }
-    ensures answers { take result.1.answers answers.new ≡ remain an_answer (ended (part from to reports.old) (take counts.requests requests.old) (take counts.answers answers.old) number.0) (take counts.answers answers.old) }
-    ensures few_requests { result.1.requests ≤ counts.requests }
-    ensures few_answers { result.1.answers ≤ counts.answers }
-    ensures long_requests { length requests.new ≡ length requests.old }
-    ensures long_answers { length answers.new ≡ length answers.old }
-    ensures book { Settles (B.Book.means book.old) (other side) (part from to reports.old) → B.Book.means book.new ≡ book_less (part from to reports.old) (B.Book.means book.old) }
-    ensures sound { TradesSettle }
-{
-    settle_and_end(
-        book, requests, answers, counts, number, side, reports, from, to,
-    )
+impl<'a, B: Book> Seat<'a, B> {
+    // Takes a request's fills out of the book and the tables, and writes the end of the request; answers how many reports it wrote, and what the tables hold.
+    #[tactic(auto, using(crate::proofs::Following::trades_settle))]
+    pub fn finish(
+        &mut self,
+        number: Number,
+        side: Side,
+        fills: &[Report],
+        out: &mut [Report],
+    ) -> (usize, Counts)
+        requires places { length self.old.requests.now + length self.old.answers.now ≤ length out.old }
+        requires rising { Rising an_answer self.old.answers.now }
+        ensures same { SameLoans self.old self.new }
+        ensures written { WritesFront out.old out.new result.0 (ending_after fills.now self.old.requests.now self.old.answers.now number.0) }
+        ensures requests { Lessens a_request (with_end (held B.Book self.old) number.0 fills.now) self.old.requests.now self.new.requests.now result.1.requests }
+        ensures answers { Lessens an_answer (with_end (held B.Book self.old) number.0 fills.now) self.old.answers.now self.new.answers.now result.1.answers }
+        ensures book { Settles (B.Book.means self.old.book.now) (other side) fills.now → B.Book.means self.new.book.now ≡ book_less fills.now (B.Book.means self.old.book.now) }
+        ensures sound { TradesSettle }
+    {
+        settle(self.book, side.opposite(), fills);
+        end_and_lessen(self.requests, self.answers, number, fills, out)
+    }
 }

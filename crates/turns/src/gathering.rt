@@ -1,101 +1,59 @@
 // What a request may draw on, from a book of any kind and from the answers.
-ghost use Rattle.std.specs.Prelude.{◌≡◌, ◌+◌, ◌<◌, ◌≤◌, [], ◌∷◌, map, length};
-ghost use Rattle.ranked.specs.Writes.{Writes};
-ghost use Rattle.book.specs.Meaning.{side_of};
+ghost use Rattle.std.specs.Prelude.{◌≡◌, ◌+◌, ◌≤◌, List, length};
+ghost use Rattle.std.specs.Iterator.{IsFinite, Yields, Drains};
+ghost use Rattle.ranked.specs.Writes.{WritesFront};
 ghost use Rattle.draw.specs.Offers.{eligible};
-ghost use Rattle.rules.specs.Offers.{from_book, from_answer, offered};
+ghost use Rattle.rules.specs.Offers.{from_book, offered};
 
-use book::{Book, Offer};
-use draw::{Eligible, Offered, Source, Taker, admit};
-use rules::Answer;
+use super::seat::Supply;
+use book::{Book, Offer, offers};
+use draw::{Eligible, Offered, Taker, admit};
 use units::Side;
 
 // An offer on a side of the book, as requests see it.
-fn in_book(side: Side, o: Offer) -> Offered
-    ensures { result ≡ from_book side o }
+fn in_book(side: Side, offer: Offer) -> Offered
+    ensures { result ≡ from_book side offer }
 {
     Offered {
-        number: o.number,
-        firm: o.firm,
+        number: offer.number,
+        firm: offer.firm,
         side,
-        price: o.price,
-        left: o.left,
-        source: Source::Book,
+        price: offer.price,
+        left: offer.left,
+        answers_to: None,
     }
 }
 
-// An answer, as requests see it.
-fn as_offered(a: Answer) -> Offered
-    ensures { result ≡ from_answer a }
+// Writes all that the iterator gives; answers how many there are. A function of its own, since for a loop over such a chain in
+// `gather` itself the checker wrote no statement that types (`iterator-loop-eligible`: `Lfts` in the place of a `RattleType`).
+fn write_all<I: Iterator<Item = Eligible> + Drop>(drawn: I, work: &mut [Eligible]) -> usize
+    requires can { I.can_next drawn }
+    requires ends { IsFinite (I.remaining drawn) }
+    requires room { (es : List Eligible) (t : I) → Yields I.next_gives drawn es t → length es ≤ length work.old }
+    ensures written { (es : List Eligible) × Drains I.next_gives drawn es × WritesFront work.old work.new result es }
 {
-    Offered {
-        number: a.number,
-        firm: a.firm,
-        side: a.side,
-        price: a.price,
-        left: a.left,
-        source: Source::AnswerTo(a.request),
-    }
-}
-
-// Writes what the request may draw on of one offer to the place `at`; answers the place behind.
-fn note(taker: Taker, offered: Offered, work: &mut [Eligible], at: usize) -> usize
-    requires { at < length work.old }
-    ensures written { Writes work.old work.new at result (eligible taker (offered ∷ [])) }
-    ensures few { result ≤ at + 1 }
-{
-    match admit(taker, offered) {
-        Some(e) => {
-            work[at] = e;
-            at + 1
-        }
-        None => at,
-    }
-}
-
-// The offers of one side of the book that the request may draw on, from the front of the working list on.
-fn gather_side<B: Book>(book: &B, side: Side, taker: Taker, work: &mut [Eligible]) -> usize
-    requires { B.Book.most ≤ length work.old }
-    ensures written { Writes work.old work.new 0 result (eligible taker (map (from_book side) (side_of (B.Book.means book.now) side))) }
-    ensures few { result ≤ B.Book.most }
-{
+    // By index: how many places were written is the answer too.
     let mut n: usize = 0;
-    for i in 0..book.count(side) {
-        if let Some(o) = book.offer(side, i) {
-            n = note(taker, in_book(side, o), work, n);
-        }
+    for eligible in drawn {
+        work[n] = eligible;
+        n += 1;
     }
     n
 }
 
-// The answers that the request may draw on, from the place `at` on.
-fn gather_answers(answers: &[Answer], taker: Taker, work: &mut [Eligible], at: usize) -> usize
-    requires { at + length answers.now ≤ length work.old }
-    ensures written { Writes work.old work.new at result (eligible taker (map from_answer answers.now)) }
-    ensures few { result ≤ at + length answers.now }
-{
-    let mut n = at;
-    for a in answers {
-        n = note(taker, as_offered(*a), work, n);
+impl<'a, B: Book> Supply<'a, B> {
+    // Writes all that the request may draw on; answers how many there are. Of the book, only the side that the request trades with has any.
+    pub fn gather(&self, taker: Taker, work: &mut [Eligible]) -> usize
+        requires { B.Book.MOST + length self.now.answers.now ≤ length work.old }
+        ensures written { WritesFront work.old work.new result (eligible taker (offered (B.Book.means self.now.book.now).buys (B.Book.means self.now.book.now).sells self.now.answers.now)) }
+        ensures few { result ≤ B.Book.MOST + length self.now.answers.now }
+    {
+        let side = taker.side.opposite();
+        let in_book = offers(self.book, side).map(|offer| in_book(side, offer));
+        let answers = self.answers.iter().map(|answer| Offered::from(*answer));
+        let drawn = in_book
+            .chain(answers)
+            .filter_map(|offered| admit(taker, offered));
+        write_all(drawn, work)
     }
-    n
-}
-
-// Of the book, only the side that the request trades with has what it may draw on.
-fn gather_both<B: Book>(book: &B, answers: &[Answer], taker: Taker, work: &mut [Eligible]) -> usize
-    requires { B.Book.most + length answers.now ≤ length work.old }
-    ensures written { Writes work.old work.new 0 result (eligible taker (offered (B.Book.means book.now).buys (B.Book.means book.now).sells answers.now)) }
-    ensures few { result ≤ B.Book.most + length answers.now }
-{
-    let n = gather_side(book, taker.side.opposite(), taker, work);
-    gather_answers(answers, taker, work, n)
-}
-
-// Writes all that the request may draw on, book and answers, over the front of the working list; answers how many there are.
-pub fn gather<B: Book>(book: &B, answers: &[Answer], taker: Taker, work: &mut [Eligible]) -> usize
-    requires { B.Book.most + length answers.now ≤ length work.old }
-    ensures written { Writes work.old work.new 0 result (eligible taker (offered (B.Book.means book.now).buys (B.Book.means book.now).sells answers.now)) }
-    ensures few { result ≤ B.Book.most + length answers.now }
-{
-    gather_both(book, answers, taker, work)
 }

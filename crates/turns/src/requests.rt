@@ -10,10 +10,10 @@ use units::{Number, Quantity};
 impl Standing for Request {
     ghost kind = { a_request };
 
-    ghost belongs = { λ n r. (r.number.0 == n) };
+    ghost belongs = { λ n r. r.number.0 == n };
 
     fn belongs_to(&self, request: Number) -> bool {
-        self.name().0 == request.0
+        self.name() == request
     }
 
     fn number(&self) -> Number {

@@ -1,125 +1,63 @@
 // A turn of an automatic request, whole: where something trades, its fills, what they leave, and its end.
-ghost use Rattle.std.specs.Prelude.{◌≡◌, ◌+◌, ◌≤◌, true, length, take};
-ghost use Rattle.units.specs.Ranges.{is_price};
-ghost use Rattle.ranked.specs.Writes.{Writes};
-ghost use Rattle.draw.specs.Offers.{Ready};
+ghost use Rattle.std.specs.Prelude.{◌≡◌, ◌+◌, ◌<◌, ◌≤◌, ◌^◌, length, take};
+ghost use Rattle.ranked.specs.Writes.{WritesFront};
 ghost use Rattle.rules.specs.State.{an_answer};
-ghost use Rattle.rules.specs.Step.{on_offer, decision_in_turn};
 ghost use Rattle.turns.specs.Tables.{Rising};
-ghost use Rattle.turns.specs.Turn.{holding, service, AllAfter};
+ghost use Rattle.turns.specs.Turn.{Tradable, found_in_turn, service, AllAfter};
+ghost use Rattle.turns.specs.Seats.{held, SameLoans};
 
 use super::confirming::Turned;
-use super::finishing::{Counts, finish};
-use super::trading::trade_in_turn;
+use super::finishing::Counts;
+use super::seat::{Seat, Wanted};
 use book::Book;
 use draw::Eligible;
-use rules::{Answer, Report, Request};
-use units::{FirmCount, Price, Side};
+use rules::Report;
+use units::FirmCount;
 
-fn trade_or_wait<B: Book>(
-    book: &mut B,
-    requests: &mut [Request],
-    answers: &mut [Answer],
-    counts: Counts,
-    request: Request,
-    side: Side,
-    limit: Price,
-    least: FirmCount,
-    work: &mut [Eligible],
-    reports: &mut [Report],
-    at: usize,
-) -> Turned
-    requires requests { counts.requests ≤ length requests.old }
-    requires answers { counts.answers ≤ length answers.old }
-    requires living { counts.answers ≤ 64 }
-    requires rising { Rising an_answer (take counts.answers answers.old) }
-    requires working { B.Book.most + counts.answers ≤ length work.old }
-    requires places { at + (B.Book.most + counts.answers + (counts.requests + counts.answers)) ≤ length reports.old }
-    requires few { length reports.old ≤ 65536 }
-    requires ready { Ready (B.Book.means book.old).lot request.left.0 (on_offer (holding (B.Book.means book.old) (take counts.requests requests.old) (take counts.answers answers.old)) request side) }
-    requires limit { is_price limit.0 ≡ true }
-    ensures written { Writes reports.old reports.new at result.end (service (holding (B.Book.means book.old) (take counts.requests requests.old) (take counts.answers answers.old)) request side limit.0 least.0) }
-    ensures found { result.found ≡ decision_in_turn (holding (B.Book.means book.old) (take counts.requests requests.old) (take counts.answers answers.old)) request side limit.0 least.0 }
-    ensures after { AllAfter (B.Book.means book.old) (take counts.requests requests.old) (take counts.answers answers.old) request (λ s. service s request side limit.0 least.0) (B.Book.means book.new) (take result.counts.requests requests.new) (take result.counts.answers answers.new) }
-    ensures few_requests { result.counts.requests ≤ counts.requests }
-    ensures few_answers { result.counts.answers ≤ counts.answers }
-    ensures long_requests { length requests.new ≡ length requests.old }
-    ensures long_answers { length answers.new ≡ length answers.old }
-{
-    let (to, found) = trade_in_turn(
-        book,
-        &answers[..counts.answers],
-        request,
-        side,
-        limit,
-        least,
-        work,
-        reports,
-        at,
-    );
-    if to == at {
-        return Turned {
-            end: at,
+impl<'a, B: Book> Seat<'a, B> {
+    // Gives an automatic request its turn: writes all its reports, none where no draw is good, and leaves of book and tables what they leave.
+    pub fn serve(
+        &mut self,
+        wanted: Wanted,
+        least_firms: FirmCount,
+        work: &mut [Eligible],
+        reports: &mut [Report],
+    ) -> Turned
+        requires living { length self.old.answers.now < 2 ^ 32 }
+        requires rising { Rising an_answer self.old.answers.now }
+        requires working { B.Book.MOST + length self.old.answers.now ≤ length work.old }
+        requires places { B.Book.MOST + length self.old.answers.now + (length self.old.requests.now + length self.old.answers.now) ≤ length reports.old }
+        requires tradable { Tradable (held B.Book self.old) wanted }
+        ensures same { SameLoans self.old self.new }
+        ensures written { WritesFront reports.old reports.new result.written (service (held B.Book self.old) wanted least_firms.0) }
+        ensures found { result.found ≡ found_in_turn (held B.Book self.old) wanted least_firms.0 }
+        ensures after { AllAfter (held B.Book self.old) wanted.request (λ s. service s wanted least_firms.0) (B.Book.means self.new.book.now) (take result.counts.requests self.new.requests.now) (take result.counts.answers self.new.answers.now) }
+        ensures few_requests { result.counts.requests ≤ length self.old.requests.now }
+        ensures few_answers { result.counts.answers ≤ length self.old.answers.now }
+        ensures long_requests { length self.new.requests.now ≡ length self.old.requests.now }
+        ensures long_answers { length self.new.answers.now ≡ length self.old.answers.now }
+    {
+        let (traded, found) = self
+            .supply()
+            .trade_in_turn(wanted, least_firms, work, reports);
+        // Only the last call is shared with `confirm`; a step for it would say this contract again.
+        if traded == 0 {
+            return Turned {
+                written: 0,
+                counts: Counts {
+                    requests: self.requests.len(),
+                    answers: self.answers.len(),
+                },
+                found,
+            };
+        }
+        let number = wanted.request.number;
+        let (fills, room) = reports.split_at_mut(traded);
+        let (ended, counts) = self.finish(number, wanted.side, fills, room);
+        Turned {
+            written: traded + ended,
             counts,
             found,
-        };
+        }
     }
-    let (end, counts) = finish(
-        book,
-        requests,
-        answers,
-        counts,
-        request.number,
-        side,
-        reports,
-        at,
-        to,
-    );
-    Turned { end, counts, found }
-}
-
-// Gives an automatic request its turn: writes all its reports from the place `at` on, none where no draw is good, and leaves of book and tables what they leave.
-pub fn serve<B: Book>(
-    book: &mut B,
-    requests: &mut [Request],
-    answers: &mut [Answer],
-    counts: Counts,
-    request: Request,
-    side: Side,
-    limit: Price,
-    least_firms: FirmCount,
-    work: &mut [Eligible],
-    reports: &mut [Report],
-    at: usize,
-) -> Turned
-    requires requests { counts.requests ≤ length requests.old }
-    requires answers { counts.answers ≤ length answers.old }
-    requires living { counts.answers ≤ 64 }
-    requires rising { Rising an_answer (take counts.answers answers.old) }
-    requires working { B.Book.most + counts.answers ≤ length work.old }
-    requires places { at + (B.Book.most + counts.answers + (counts.requests + counts.answers)) ≤ length reports.old }
-    requires few { length reports.old ≤ 65536 }
-    requires ready { Ready (B.Book.means book.old).lot request.left.0 (on_offer (holding (B.Book.means book.old) (take counts.requests requests.old) (take counts.answers answers.old)) request side) }
-    requires limit { is_price limit.0 ≡ true }
-    ensures written { Writes reports.old reports.new at result.end (service (holding (B.Book.means book.old) (take counts.requests requests.old) (take counts.answers answers.old)) request side limit.0 least_firms.0) }
-    ensures found { result.found ≡ decision_in_turn (holding (B.Book.means book.old) (take counts.requests requests.old) (take counts.answers answers.old)) request side limit.0 least_firms.0 }
-    ensures after { AllAfter (B.Book.means book.old) (take counts.requests requests.old) (take counts.answers answers.old) request (λ s. service s request side limit.0 least_firms.0) (B.Book.means book.new) (take result.counts.requests requests.new) (take result.counts.answers answers.new) }
-    ensures few_requests { result.counts.requests ≤ counts.requests }
-    ensures few_answers { result.counts.answers ≤ counts.answers }
-    ensures long_requests { length requests.new ≡ length requests.old }
-    ensures long_answers { length answers.new ≡ length answers.old }
-{
-    trade_or_wait(
-        book,
-        requests,
-        answers,
-        counts,
-        request,
-        side,
-        limit,
-        least_firms,
-        work,
-        reports,
-        at,
-    )
 }

@@ -10,27 +10,18 @@ use units::Side;
 fn take_one<B: Book>(book: &mut B, side: Side, report: Report)
     ensures { B.Book.means book.new ≡ after_report (B.Book.means book.old) side report }
 {
-    match report {
-        Report::Fill(_, fill) => {
-            let _ = book.take(side, fill.maker, fill.quantity);
-        }
-        Report::Kill(_, _, _) => {}
+    if let Report::Fill(_, fill) = report {
+        let _ = book.take(side, fill.maker, fill.quantity);
     }
 }
 
-fn take_each<B: Book>(book: &mut B, side: Side, fills: &[Report])
+// Takes each fill from a side of the book, which then is what the fills leave of it.
+#[tactic(auto, using(crate::proofs::Gathered::settled_more, crate::proofs::Gathered::settled_end))]
+pub fn settle<B: Book>(book: &mut B, side: Side, fills: &[Report])
     ensures after { B.Book.means book.new ≡ settled (B.Book.means book.old) side fills.now }
     ensures left { Settles (B.Book.means book.old) side fills.now → B.Book.means book.new ≡ book_less fills.now (B.Book.means book.old) }
 {
     for r in fills {
         take_one(book, side, *r);
     }
-}
-
-// Takes each fill from a side of the book, which then is what the fills leave of it.
-pub fn settle<B: Book>(book: &mut B, side: Side, fills: &[Report])
-    ensures after { B.Book.means book.new ≡ settled (B.Book.means book.old) side fills.now }
-    ensures left { Settles (B.Book.means book.old) side fills.now → B.Book.means book.new ≡ book_less fills.now (B.Book.means book.old) }
-{
-    take_each(book, side, fills);
 }

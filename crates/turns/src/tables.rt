@@ -1,7 +1,8 @@
-// Tables of requests and answers, each the front of a list of places with a count; and what reports leave of them.
-ghost use Rattle.std.specs.Prelude.{◌≡◌, ℕ, ◌+◌, ◌<◌, ◌≤◌, Bool, length, take, drop, if◌then◌else◌, nat_eq};
+// Tables of requests and answers, and what reports leave of them.
+ghost use Rattle.std.specs.Prelude.{◌≡◌, ℕ, ◌+◌, ◌-◌, ◌<◌, ◌≤◌, Bool, length, if◌then◌else◌, nat_eq};
 ghost use Rattle.rules.specs.State.{Kept};
-ghost use Rattle.rules.specs.Reports.{remain, rest, filled, killed, fills_of, kills_of};
+ghost use Rattle.rules.specs.Reports.{rest, filled, killed, fills_of, kills_of};
+ghost use Rattle.turns.specs.Tables.{Lessens};
 
 use rules::Report;
 use units::{Number, Quantity};
@@ -27,78 +28,51 @@ pub trait Standing: Copy + Drop {
 }
 
 // The quantity, where it is of the number.
-fn of_number(quantity: Quantity, whose: Number, number: Number) -> u64
-    ensures value { result ≡ (if nat_eq whose.0 number.0 then quantity.0 else 0) }
-    ensures few { result < 4294967296 }
+fn of_number(quantity: Quantity, whose: Number, number: Number) -> u32
+    ensures { result ≡ (if nat_eq whose.0 number.0 then quantity.0 else 0) }
 {
-    if whose.0 == number.0 {
-        u64::from(quantity.0)
-    } else {
-        0
-    }
+    if whose == number { quantity.0 } else { 0 }
 }
 
-// What one report takes of a number.
-fn takes(r: Report, number: Number) -> u64
-    ensures value { result ≡ fills_of number.0 r + kills_of number.0 r }
-    ensures few { result < 8589934592 }
+// What one report leaves of so much of a number, none where it takes more.
+fn less(left: u32, report: &Report, number: Number) -> u32
+    ensures { result ≡ left - (fills_of number.0 report.now + kills_of number.0 report.now) }
 {
-    match r {
-        Report::Fill(taker, fill) => of_number(fill.quantity, taker, number)
-            + of_number(fill.quantity, fill.maker, number),
-        Report::Kill(_, killed, left) => of_number(left, killed, number),
+    match *report {
+        Report::Fill(taker, fill) => left
+            .saturating_sub(of_number(fill.quantity, taker, number))
+            .saturating_sub(of_number(fill.quantity, fill.maker, number)),
+        Report::Kill(_, killed, quantity) => {
+            left.saturating_sub(of_number(quantity, killed, number))
+        }
     }
-}
-
-// What the reports take of a number.
-fn touched(reports: &[Report], number: Number) -> u64
-    requires { length reports.now ≤ 65536 }
-    ensures { result ≡ filled reports.now number.0 + killed reports.now number.0 }
-{
-    let mut sum: u64 = 0;
-    for r in reports {
-        sum += takes(*r, number);
-    }
-    sum
 }
 
 // What the reports leave of one record.
 fn rest_of<T: Standing>(x: &T, reports: &[Report]) -> Quantity
-    requires { length reports.now ≤ 65536 }
     ensures { result.0 ≡ rest T.Standing.kind reports.now x.now }
 {
-    let left = u64::from(x.left().0);
-    Quantity(left.saturating_sub(touched(reports, x.number())) as u32)
+    let (left, number) = (x.left(), x.number());
+    Quantity(
+        reports
+            .iter()
+            .fold(left.0, |left, report| less(left, report, number)),
+    )
 }
 
-fn lessen_each<T: Standing>(table: &mut [T], count: usize, reports: &[Report]) -> usize
-    requires places { count ≤ length table.old }
-    requires reports { length reports.now ≤ 65536 }
-    ensures items { take result table.new ≡ remain T.Standing.kind reports.now (take count table.old) }
-    ensures behind { drop count table.new ≡ drop count table.old }
-    ensures fewer { result ≤ count }
-    ensures long { length table.new ≡ length table.old }
+// Keeps at the front of the table what the reports leave of its records, in their order; answers how many are left.
+pub fn lessen<T: Standing>(table: &mut [T], reports: &[Report]) -> usize
+    ensures { Lessens T.Standing.kind reports.now table.old table.new result }
 {
-    let mut n: usize = 0;
-    for i in 0..count {
+    // By index: a slice has no `retain`, and no iterator reads it while its front is written.
+    let mut kept: usize = 0;
+    for i in 0..table.len() {
         let x = table[i];
         let rest = rest_of(&x, reports);
-        if rest.0 > 0 {
-            table[n] = x.with_left(rest);
-            n += 1;
+        if Quantity(0) < rest {
+            table[kept] = x.with_left(rest);
+            kept += 1;
         }
     }
-    n
-}
-
-// Keeps of the first `count` records what the reports leave, in their order; answers how many are left.
-pub fn lessen<T: Standing>(table: &mut [T], count: usize, reports: &[Report]) -> usize
-    requires places { count ≤ length table.old }
-    requires reports { length reports.now ≤ 65536 }
-    ensures items { take result table.new ≡ remain T.Standing.kind reports.now (take count table.old) }
-    ensures behind { drop count table.new ≡ drop count table.old }
-    ensures fewer { result ≤ count }
-    ensures long { length table.new ≡ length table.old }
-{
-    lessen_each(table, count, reports)
+    kept
 }

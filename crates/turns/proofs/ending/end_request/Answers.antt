@@ -1,14 +1,12 @@
 use Rattle.std.proofs.Common.{eqb, List, ◌++◌, sym, ap, arith}
-use Rattle.ranked.proofs.Writing.{writes_then, writes_as}
+use Rattle.ranked.proofs.Fronts.{front_as}
 use Rattle.rules.specs.declared.records.Answer.{Answer}
 use Rattle.rules.specs.State.{an_answer, a_request}
 use Rattle.rules.specs.Reports.{kills}
 use Rattle.rules.specs.Offers.{under, offered_to}
+use Rattle.turns.proofs.Gathered.{front_behind}
 use Rattle.turns.proofs.Ordered.{already, kept_rising}
-use Rattle.turns.proofs.ending.kill_both.Goals as goal
-
-pub kill_each-requires : goal.kill_each-requires
-kill_each-requires c = omega (arith, c.kill_each-n.ensures.few, c.kill_each-n.ensures.written.long, c.requires.places)
+use Rattle.turns.proofs.ending.end_request.Goals as goal
 
 pub returns : goal.returns
 returns c =
@@ -16,6 +14,6 @@ returns c =
     let n = c.args.number.0 in
     let o = already an_answer (offered_to n xs) (kept_rising an_answer (λ (a : Answer). eqb a.request.0 n) xs c.requires.rising) in
     record {
-      written = writes_as (ap (λ (v : List Answer). kills a_request c.args.reason (under a_request n c.args.requests.now) ++ kills an_answer c.args.its_answers v) (sym o)) (writes_then c.kill_each-n.ensures.written c.kill_each.ensures.written);
+      written = front_as (ap (λ (v : List Answer). kills a_request c.args.reason (under a_request n c.args.requests.now) ++ kills an_answer c.args.its_answers v) (sym o)) (front_behind c.kill_each-n.ensures.written c.kill_each.ensures.written);
       few = omega (arith, c.kill_each-n.ensures.few, c.kill_each.ensures.few);
     }
