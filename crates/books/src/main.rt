@@ -32,6 +32,7 @@ const PLAN: Sides<Rungs> = Sides {
     },
 };
 
+// Three kinds of book, each made in its own way; that each is made is all that they share.
 fn kept_book() -> Result<KeptBook, MakeError>
     ensures { is_ok result ≡ true }
 {
@@ -66,6 +67,8 @@ fn verdict(answer: Result<(), Refused>) -> &'static str {
         Err(Refused) => "refused",
     }
 }
+
+// Whoever prints is given the handle and the book: a struct of the two would be taken apart at once.
 
 // Every offer of a side, in order.
 fn tell_side<B: Book>(rt: HostRuntime, book: &B, side: Side) -> io::Result<()> {

@@ -47,6 +47,7 @@ fn kept_book_has_room_for_128_a_side(rt: HostRuntime) -> Result<(), Fail> {
     let Ok(mut book) = kept_book() else {
         return Err(Fail::new("not made"));
     };
+    // Numbers of orders: there is no list to go over.
     for number in 1..129u32 {
         assert!(rt; book.enter(Side::Sell, order(number, 1, 100, 10)).is_ok());
     }

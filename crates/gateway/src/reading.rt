@@ -10,7 +10,7 @@ use super::faults::Fault;
 use super::messages::{FRAME, FRONT, Kind, MINIMUM, Message, NUMBER, PRICE, QUANTITY, TIME, Uses};
 use units::{Delay, Firm, FirmCount, Number, Orders, Price, Quantity, Refusal, Side, Time};
 
-// The four-byte little-endian field at a place.
+// The four-byte little-endian field at its place, which is no length of the list.
 fn field(bytes: &[u8], at: usize) -> u32
     requires { at + 4 ≤ length bytes.now }
     ensures { result ≡ field_at bytes.now at }
@@ -232,6 +232,7 @@ pub fn read<O: Orders>(frame: &[u8], place: usize) -> Result<Message<'_, O>, Fau
 {
     let frame = <&[u8; FRAME]>::try_from(frame).map_err(|_| Fault::new(Refusal::Length, place, 0))?;
     let kind = kind_of(frame[0], takes_orders::<O>()).ok_or(Fault::new(Refusal::Kind, place, 0))?;
+    // By hand: what is found is the stray byte, and none is the good case, which `?` and `ok_or` take the other way round.
     if let Some(byte) = stray_in(uses_of(kind), frame) {
         return Err(Fault::new(Refusal::Stray, place, byte));
     }

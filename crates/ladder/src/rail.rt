@@ -12,6 +12,7 @@ pub(crate) struct Rail {
     side: Side,
     first: Price,
     step: Step,
+    // of each rung, all 64 of them: no list with a length
     left: [u32; MOST_RUNGS],
     ghost places: { length left ≡ 64 },
     ghost fits: { (k : ℕ) → 0 < slice_index left k → rung_price side first.0 step.0 k ≤ 1000000000 },

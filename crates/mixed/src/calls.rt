@@ -26,7 +26,7 @@ impl MixedBook {
         Ok(MixedBook { rungs, orders })
     }
 
-    // The same in the caller's place, which a refusal leaves as it was.
+    // The same in the caller's place, which a refusal leaves as it was. One call of `fill`: what it promises is over this kind's own meaning.
     #[tactic(auto, using(book::proofs::Making::fill_answers, book::proofs::Making::fill_means))]
     pub fn make(place: &mut Option<MixedBook>, plan: Sides<Rungs>) -> Result<(), MakeError>
         ensures result { result ≡ made_unless (ladder_refused plan) }

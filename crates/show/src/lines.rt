@@ -1,4 +1,4 @@
-// The lines that the program writes.
+// The lines that the program writes. Their text is lent, so that one piece of memory serves every part of a stream.
 use super::words::{Reason, Words};
 use gateway::{Fault, count, piece, read};
 use std::alloc::AllocError;

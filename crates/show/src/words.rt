@@ -152,7 +152,7 @@ impl fmt::Display for Words<'_> {
     }
 }
 
-// Why reading refuses; the market's own reasons never come of a frame alone.
+// Why reading refuses, and no Display of a refusal: these words are those of reading alone, since the market's own reasons never come of a frame.
 fn why(refusal: Refusal) -> &'static str {
     match refusal {
         Refusal::Length => "the end of the stream is no whole frame",

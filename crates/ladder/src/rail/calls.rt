@@ -10,6 +10,7 @@ use crate::rungs::{MOST_RUNGS, Rungs, Step};
 use book::{Offer, OneSide, Refused, whole_lots};
 use units::{Firm, Lot, Number, Price, Quantity, Side};
 
+// Where the numbers of a side's rungs begin, 64 for each side: no code of a kind.
 fn first_number(side: Side) -> u32
     ensures { result ≡ first_number side }
 {
