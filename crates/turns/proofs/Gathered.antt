@@ -1,8 +1,6 @@
 -- The steps of the loops that gather, settle, lessen and kill.
-use Rattle.std.proofs.Common.{◌≡◌, ℕ, ◌+◌, ◌<◌, ◌≤◌, Bool, true, false, cond, ◌&&◌, List, [], ◌∷◌, ◌++◌, ◌-◌, map, length, length-drop, get_or, take, drop, set, filter, fold, Option, Some, None, sym, refl, ap, ◌∙◌, subst, append-nil, arith, length-append, map-id}
-use mathlib.Core.List.{map-append}
+use Rattle.std.proofs.Common.{◌≡◌, ℕ, ◌+◌, ◌<◌, ◌≤◌, Bool, true, false, cond, ◌&&◌, List, [], ◌∷◌, ◌++◌, ◌-◌, map, length, length-drop, get_or, take, drop, filter, fold, Option, Some, None, sym, refl, ap, ◌∙◌, subst, append-nil, arith, length-append, map-id}
 use Rattle.std.proofs.lemmas.List.{drop_more, drop_all, length-map}
-use Rattle.std.proofs.lemmas.List.Elements.{filter_more}
 use Rattle.std.specs.List.{between, filter_map, cons_option}
 use Rattle.std.specs.Iterator.{Yields, Drains}
 use Rattle.std.proofs.iter.Next.{Yields-more}
@@ -11,12 +9,11 @@ use Rattle.std.proofs.lemmas.Iterator.Adapters.{at_most_from_yields_List}
 use Rattle.std.proofs.lemmas.Iterator.Consumers.{YieldsList-end}
 use borrow.Rule.Slice.PartMut.{put_mid}
 use Rattle.std.proofs.lemmas.Slice.{between_to_end}
-use Rattle.std.proofs.lemmas.Bool.{cond-true, cond-false}
 use Rattle.units.specs.declared.side.Side.{Side}
 use Rattle.units.specs.declared.side.Side.TheVariants as sides
 use Rattle.units.specs.Sides.{other}
 use Rattle.ranked.specs.Writes.{WritesFront}
-use Rattle.ranked.proofs.Fronts.{front_more, front_as, front_then}
+use Rattle.ranked.proofs.Fronts.{front_as, front_then}
 use Rattle.book.specs.declared.Offer.{Offer}
 use Rattle.book.specs.Meaning.{Meaning, side_of}
 use Rattle.draw.specs.declared.offers.Eligible.{Eligible}
@@ -138,22 +135,3 @@ pub left_after : (rs : List Report) (n l : ℕ) → fold (λ (a : ℕ) (r : Repo
 unfolding filled killed
 left_after [] n l = omega arith
 left_after (r ∷ rs) n l = let h = left_after rs n (l - (fills_of n r + kills_of n r)) in omega arith
-
--- ── kills ──
-
-pub kept_yes : {X : Type 0} (p : X → Bool) (xs : List X) (i : ℕ) (x : X) → x ≡ get_or xs i x → i < length xs → p x ≡ true → filter p (take (i + 1) xs) ≡ filter p (take i xs) ++ x ∷ []
-kept_yes {X} p xs i x q l e =
-    filter_more p xs i x l
-    ∙ (ap (λ (v : List X). filter p (take i xs) ++ v) (cond-true _ _ _ (ap p (sym q) ∙ e))
-    ∙ ap (λ (y : X). filter p (take i xs) ++ y ∷ []) (sym q))
-
-pub kept_not : {X : Type 0} (p : X → Bool) (xs : List X) (i : ℕ) (x : X) → x ≡ get_or xs i x → i < length xs → p x ≡ false → filter p (take (i + 1) xs) ≡ filter p (take i xs)
-kept_not {X} p xs i x q l e =
-    filter_more p xs i x l
-    ∙ (ap (λ (v : List X). filter p (take i xs) ++ v) (cond-false _ _ _ (ap p (sym q) ∙ e))
-    ∙ append-nil _)
-
--- one more record of what a map writes
-pub mapped_more : {X Y : Type 0} (f : X → Y) {old new after : List Y} {n m : ℕ} (xs ys : List X) (x : X) → ys ≡ xs ++ x ∷ [] → n < length old → after ≡ set new n (f x) → m ≡ n + 1 →
-    WritesFront old new n (map f xs) → WritesFront old after m (map f ys)
-mapped_more f xs ys x e l s p w = front_same s p (sym (map-append f xs (x ∷ [])) ∙ ap (map f) (sym e)) (front_more (f x) w l)

@@ -7,6 +7,7 @@ ghost use Rattle.rules.specs.Calls.{ending};
 ghost use Rattle.turns.specs.Tables.{Rising};
 
 use super::tables::Standing;
+use super::writing::write_all;
 use rules::{Answer, KillReason, Report, Request};
 use units::Number;
 
@@ -21,16 +22,11 @@ fn kill_each<T: Standing>(
     ensures written { WritesFront out.old out.new result (kills T.Standing.kind reason (filter (T.Standing.belongs request.0) table.now)) }
     ensures few { result ≤ length table.now }
 {
-    // Counted by hand: of a chain that writes to the places it was not proved what it leaves in them
-    // (`search` did not prove `returns-clause-written`).
-    let mut n: usize = 0;
-    for x in table {
-        if x.belongs_to(request) {
-            out[n] = Report::Kill(reason, x.number(), x.left());
-            n += 1;
-        }
-    }
-    n
+    let kills = table
+        .iter()
+        .filter(|x| x.belongs_to(request))
+        .map(|x| Report::Kill(reason, x.number(), x.left()));
+    write_all(kills, out)
 }
 
 // Writes the end of the request of that number: its kill, then the kills of its answers, which stand by number; answers how many reports it wrote.

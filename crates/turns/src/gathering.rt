@@ -1,11 +1,11 @@
 // What a request may draw on, from a book of any kind and from the answers.
-ghost use Rattle.std.specs.Prelude.{◌≡◌, ◌+◌, ◌≤◌, List, length};
-ghost use Rattle.std.specs.Iterator.{IsFinite, Yields, Drains};
+ghost use Rattle.std.specs.Prelude.{◌≡◌, ◌+◌, ◌≤◌, length};
 ghost use Rattle.ranked.specs.Writes.{WritesFront};
 ghost use Rattle.draw.specs.Offers.{eligible};
 ghost use Rattle.rules.specs.Offers.{from_book, offered};
 
 use super::seat::Supply;
+use super::writing::write_all;
 use book::{Book, Offer, offers};
 use draw::{Eligible, Offered, Taker, admit};
 use units::Side;
@@ -22,23 +22,6 @@ fn in_book(side: Side, offer: Offer) -> Offered
         left: offer.left,
         answers_to: None,
     }
-}
-
-// Writes all that the iterator gives; answers how many there are. A function of its own, since for a loop over such a chain in
-// `gather` itself the checker wrote no statement that types (`iterator-loop-eligible`: `Lfts` in the place of a `RattleType`).
-fn write_all<I: Iterator<Item = Eligible> + Drop>(drawn: I, work: &mut [Eligible]) -> usize
-    requires can { I.can_next drawn }
-    requires ends { IsFinite (I.remaining drawn) }
-    requires room { (es : List Eligible) (t : I) → Yields I.next_gives drawn es t → length es ≤ length work.old }
-    ensures written { (es : List Eligible) × Drains I.next_gives drawn es × WritesFront work.old work.new result es }
-{
-    // By index: how many places were written is the answer too.
-    let mut n: usize = 0;
-    for eligible in drawn {
-        work[n] = eligible;
-        n += 1;
-    }
-    n
 }
 
 impl<'a, B: Book> Supply<'a, B> {

@@ -12,6 +12,7 @@ mod serving;
 mod settling;
 mod tables;
 mod trading;
+mod writing;
 
 pub use confirming::Turned;
 pub use ending::end_request;

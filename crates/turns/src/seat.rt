@@ -15,6 +15,7 @@ pub struct Supply<'a, B> {
 
 // The book, the open requests and the living answers, each lent whole. That the answers stand by number, and that the lists which
 // come with a call have room, its calls require: a fact of the seat itself would have to hold at every write through it.
+// That the places stay the same, its calls promise: it ties the seat after a call to the seat before.
 #[derive(Drop)]
 pub struct Seat<'a, B> {
     pub book: &'a mut B,

@@ -40,7 +40,7 @@ impl<'a, B: Book> Seat<'a, B> {
         let (traded, found) = self
             .supply()
             .trade_in_turn(wanted, least_firms, work, reports);
-        // Only the last call is shared with `confirm`; a step for it would say this contract again.
+        // Only what follows the fills is shared with `confirm`; a step for it would say this contract again.
         if traded == 0 {
             return Turned {
                 written: 0,

@@ -1,25 +1,38 @@
-use Rattle.std.proofs.Common.{ℕ, ◌<◌, length, take, set, filter, sym, ap, ◌∙◌, ap₂, arith}
+use Rattle.std.proofs.Common.{filter, arith, rules}
+use borrow.Author.Tests.{tests}
+use Rattle.std.proofs.lemmas.List.{length-map}
+use Rattle.std.proofs.lemmas.List.Sums.{length-filter, count_by-le-length}
+use Rattle.std.proofs.lemmas.Iterator.{YieldsList-from_slice, YieldsList-from_map}
+use Rattle.std.proofs.lemmas.Iterator.Consumers.{YieldsList-at, YieldsList-from_filter}
+use Rattle.ranked.proofs.Fronts.{front_as}
 use Rattle.rules.specs.Reports.{kill, kills}
-use Rattle.turns.proofs.Gathered.{kept_yes, kept_not, mapped_more, front_same}
+use Rattle.turns.proofs.Gathered.{room_for, all_given}
 use Rattle.turns.proofs.ending.kill_each.Goals as goal
-use Rattle.turns.proofs.ending.kill_each.Goals.{then-belongs_to, else-belongs_to}
 
-pub loop-x-preserved : goal.loop-x-preserved
-loop-x-preserved g c =
-    let p = g.T.Standing.belongs c.args.request.0 in
+pub write_all-requires-clause-room : goal.write_all-requires-clause-room
+write_all-requires-clause-room g c =
     let k = g.T.Standing.kind in
+    let p = g.T.Standing.belongs c.args.request.0 in
     let xs = c.args.table.now in
-    let x = c.x-item.result in
-    elim c.if-belongs_to.branch [
-      | then-belongs_to w ↦
-          let r : c.loop-x.n < length c.args.out.now = omega (arith, c.loop-x.invariant.1, c.loop-x-test.true, c.requires, c.loop-x.auto.out) in
-          let e = w.out-is ∙ ap₂ (λ (a b : ℕ). set c.loop-x.out c.loop-x.n (kill c.args.reason a b)) w.number.ensures w.left.ensures in (
-            mapped_more (λ x. kill c.args.reason (k.number x) (k.left x)) (filter p (take c.loop-x.x-index xs)) _ x
-                (kept_yes p xs c.loop-x.x-index x c.x-item.is c.loop-x-test.true (sym w.if-belongs_to.ensures)) r e w.n-is c.loop-x.invariant.0,
-            omega (arith, w.n-is, c.loop-x.invariant.1),
-          )
-      | else-belongs_to w ↦ (
-        front_same w.out-is w.n-is (ap (kills k c.args.reason) (sym (kept_not p xs c.loop-x.x-index x c.x-item.is c.loop-x-test.true (sym w.if-belongs_to.ensures)))) c.loop-x.invariant.0,
-        omega (arith, w.n-is, c.loop-x.invariant.1),
-      )
-    ]
+    let f = λ (x : g.row.T.Denot). kill c.args.reason (k.number x) (k.left x) in
+    let a = length-map (filter p xs) f in
+    let b = length-filter p xs in
+    let d = count_by-le-length p xs in
+    room_for (kills k c.args.reason (filter p xs)) (omega (arith, c.requires))
+    (YieldsList-from_map _ f (YieldsList-at c.map-kills.ensures.source (YieldsList-from_filter _ p (YieldsList-at c.filter.ensures.source (YieldsList-from_slice xs c.iter.ensures.rest)) c.filter.ensures.closure (λ x r q e. search (rules, tests))))
+    c.map-kills.ensures.closure (λ x r q e. search (rules, tests)))
+
+pub returns : goal.returns
+returns g c =
+    let k = g.T.Standing.kind in
+    let p = g.T.Standing.belongs c.args.request.0 in
+    let xs = c.args.table.now in
+    let f = λ (x : g.row.T.Denot). kill c.args.reason (k.number x) (k.left x) in
+    let a = length-map (filter p xs) f in
+    let b = length-filter p xs in
+    let d = count_by-le-length p xs in
+    let given = c.write_all.ensures.written in
+    let w = front_as (all_given given.0 (kills k c.args.reason (filter p xs)) given.1
+    (YieldsList-from_map _ f (YieldsList-at c.map-kills.ensures.source (YieldsList-from_filter _ p (YieldsList-at c.filter.ensures.source (YieldsList-from_slice xs c.iter.ensures.rest)) c.filter.ensures.closure (λ x r q e. search (rules, tests))))
+    c.map-kills.ensures.closure (λ x r q e. search (rules, tests)))) given.2 in
+    record { written = w; few = omega (arith, w.count) }
