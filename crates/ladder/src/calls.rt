@@ -104,6 +104,7 @@ impl Book for Ladder {
         self.sides.lot
     }
 
+    // These go on to the sides: a type of its own for each kind of book keeps its law of how many offers a side may have.
     fn count(&self, side: Side) -> usize {
         self.sides.side(side).count()
     }
