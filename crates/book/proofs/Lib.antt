@@ -1,3 +1,4 @@
+pub mod Account
 pub mod Answers
 pub mod Sublists
 pub mod Ranges

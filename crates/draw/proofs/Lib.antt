@@ -1,5 +1,4 @@
 pub mod Sides
-pub mod Comparing
 pub mod Bounds
 pub mod Cost
 pub mod Reaching

@@ -1,4 +1,5 @@
-// The rankings of offers: one text for both sides, by what is better to a side.
+// The rankings of offers: one text for both sides, by what is better to a side. What comes after the price is compared
+// only where all before it ties, since the price mostly decides.
 ghost use Rattle.std.specs.Prelude.{◌≡◌};
 ghost use Rattle.std.specs.Ordering.{is_lt, is_gt};
 ghost use Rattle.draw.specs.Rankings.{better_price, request_before, trading_before};
@@ -31,12 +32,11 @@ impl Ranking<Eligible> for RequestRanking {
 
     ghost order = { λ s. request_order s.side };
 
-    #[tactic(auto, using(crate::proofs::Comparing::comparing))]
     fn precedes(&self, a: &Eligible, b: &Eligible) -> bool {
         by_price(self.side, a, b)
-            .then(b.is_answer.cmp(&a.is_answer))
-            .then(b.left.cmp(&a.left))
-            .then(a.number.cmp(&b.number))
+            .then_with(|| b.is_answer.cmp(&a.is_answer))
+            .then_with(|| b.left.cmp(&a.left))
+            .then_with(|| a.number.cmp(&b.number))
             .is_lt()
     }
 }
@@ -52,9 +52,8 @@ impl Ranking<Eligible> for TradingRanking {
 
     ghost order = { λ s. trading_order s.side };
 
-    #[tactic(auto, using(crate::proofs::Comparing::comparing))]
     fn precedes(&self, a: &Eligible, b: &Eligible) -> bool {
-        let by_number = a.number.cmp(&b.number);
-        by_price(self.side, a, b).then(by_number).is_lt()
+        let by_number = || a.number.cmp(&b.number);
+        by_price(self.side, a, b).then_with(by_number).is_lt()
     }
 }

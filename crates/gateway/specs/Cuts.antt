@@ -1,5 +1,5 @@
 -- A file of any length, cut into frames of 32 bytes and a short rest.
-use Rattle.std.specs.Prelude.{ℕ, zero, suc, ◌+◌, ◌-◌, ◌*◌, ◌/◌, ◌%◌, cond, List, [], ◌++◌, length, take, drop, Some, None, Ok, Err, Option, Result, ◌==◌, nat_lt}
+use Rattle.std.specs.Prelude.{ℕ, zero, suc, ◌+◌, ◌-◌, ◌*◌, ◌/◌, ◌%◌, min, cond, List, [], ◌++◌, length, take, drop, Some, None, Ok, Err, Option, Result, ◌==◌, nat_lt}
 use Rattle.std.specs.Borrow.{Bor}
 use Rattle.units.specs.declared.refusal.Refusal.TheVariants as refusals
 use Rattle.gateway.specs.declared.faults.Fault.{Fault}
@@ -35,6 +35,9 @@ abbrev pub pieces : ℕ → List ℕ → List ℕ
 pieces zero b = []
 pieces (suc n) b = pieces n b ++ cut_at b n
 
--- where the rest after the last whole frame begins
-abbrev pub rest_start : List ℕ → ℕ
-rest_start b = length b - length b % 32
+-- how many of the first n bytes a buffer has, and where the rest of them after the last whole frame begins
+abbrev pub filled_in : ℕ → List ℕ → ℕ
+filled_in n b = min n (length b)
+
+abbrev pub rest_start : ℕ → List ℕ → ℕ
+rest_start n b = filled_in n b - filled_in n b % 32

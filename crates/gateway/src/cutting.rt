@@ -1,6 +1,6 @@
 // Cutting a file into frames and a short rest of 1 to 31 bytes.
-ghost use Rattle.std.specs.Prelude.{◌≡◌, ◌%◌, ◌<◌, length, take, drop};
-ghost use Rattle.gateway.specs.Cuts.{whole_in, rest_start, count_of, cut_at, piece_at, piece_of};
+ghost use Rattle.std.specs.Prelude.{◌≡◌, ◌%◌, ◌<◌, take, drop};
+ghost use Rattle.gateway.specs.Cuts.{whole_in, filled_in, rest_start, count_of, cut_at, piece_at, piece_of};
 ghost use Rattle.gateway.specs.Laws.{Covers, Resumes};
 
 use super::faults::Fault;
@@ -47,16 +47,17 @@ pub fn piece(bytes: &[u8], index: usize, place: usize) -> Option<Result<&[u8], F
     }
 }
 
-// Of the bytes that a buffer holds, lets go of the whole frames and moves the short rest to the front, where the next part of the
-// file can follow it. Answers how many bytes the rest has; the places behind it are as they were.
+// Of the first `held` bytes of a buffer, or of all that it has where they are fewer, lets go of the whole frames and moves the short rest
+// to the front, where the next part of the file can follow it. Answers how many bytes the rest has; the places behind it are as they were.
 #[tactic(auto, using(crate::proofs::Cuts::front_pasted))]
-pub fn keep_rest(held: &mut [u8]) -> usize
-    ensures value { result ≡ length held.old % 32 }
-    ensures first { take result held.new ≡ drop (rest_start held.old) held.old }
-    ensures rest { drop result held.new ≡ drop result held.old }
+pub fn keep_rest(buffer: &mut [u8], held: usize) -> usize
+    ensures value { result ≡ filled_in held buffer.old % 32 }
+    ensures first { take result buffer.new ≡ drop (rest_start held buffer.old) (take (filled_in held buffer.old) buffer.old) }
+    ensures rest { drop result buffer.new ≡ drop result buffer.old }
     ensures short { result < 32 }
 {
-    let start = held.len() - held.len() % FRAME;
-    held.copy_within(start.., 0);
-    held.len() - start
+    let end = held.min(buffer.len());
+    let start = end - end % FRAME;
+    buffer.copy_within(start..end, 0);
+    end - start
 }

@@ -213,9 +213,9 @@ fn a_short_rest_is_kept(rt: HostRuntime) {
     let mut buffer = [0u8; 100];
     buffer[64] = 5;
     buffer[68] = 6;
-    assert_eq!(rt; keep_rest(&mut buffer[..69]), 5);
+    assert_eq!(rt; keep_rest(&mut buffer, 69), 5);
     assert_eq!(rt; buffer[0], 5);
     assert_eq!(rt; buffer[4], 6);
     assert_eq!(rt; buffer[68], 6);
-    assert_eq!(rt; keep_rest(&mut buffer), 4);
+    assert_eq!(rt; keep_rest(&mut buffer, 1000), 4);
 }

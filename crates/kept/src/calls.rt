@@ -92,6 +92,7 @@ impl OpenBook for KeptBook {
         Ok(())
     }
 
+    #[tactic(auto, using(crate::proofs::Keeping::kept_removed))]
     fn remove(&mut self, side: Side, number: Number) -> Result<(), Refused> {
         self.sides.side_mut(side).remove(number)
     }

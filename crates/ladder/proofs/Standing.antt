@@ -1,7 +1,8 @@
 -- The offers of a ladder's side: which numbers it has, what is left of each, and what a lowered rung does.
-use Rattle.std.proofs.Common.{◌≡◌, ℕ, zero, suc, ◌+◌, ◌-◌, ◌<◌, ◌≤◌, Bool, true, false, cond, not, eqb, List, [], ◌∷◌, length, map, filter, count_by, slice_get, Option, get_or, set, Some, None, sym, refl, ap, ◌∙◌, subst, arith}
+use Rattle.std.proofs.Common.{◌≡◌, ℕ, zero, suc, ◌+◌, ◌-◌, ◌<◌, ◌≤◌, Bool, true, false, cond, not, eqb, List, [], ◌∷◌, length, drop, map, filter, count_by, slice_get, Option, get_or, set, Some, None, sym, refl, ap, ◌∙◌, subst, arith}
 use Rattle.std.specs.List.{enumerate_from}
 use Rattle.std.specs.Option.{option_map}
+use Rattle.std.proofs.lemmas.List.{at_drop_more, at_drop_all}
 use Rattle.std.proofs.lemmas.Option.{slice_get-map}
 use Rattle.std.proofs.lemmas.List.Sums.{length-filter}
 use Rattle.std.proofs.lemmas.Bool.{eq-eqb, ne_eqb, eqb-true, eqb-false, cond_both, cond-true, cond-false, or_from, or_left, or_right, and_parts}
@@ -181,6 +182,37 @@ stands_some ls place k l e =
     let q : p.at ≡ k = omega (arith, p.is) in
     let w : get_or ls k 0 ≡ l = ap (λ (i : ℕ). get_or ls i 0) (sym q) ∙ p.left in
     omega (arith, w, p.some)
+
+-- the loop that looks for the rung at a place: what stands from rung i on, and how many rungs to pass over
+abbrev pub standing_from : List ℕ → ℕ → ℕ → Option (ℕ × ℕ)
+standing_from ls i skip = slice_get (filter stands (enumerate_from i (drop i ls))) skip
+
+live_first : (i x : ℕ) (xs : List ℕ) → (x ≡ 0 → ⊥) → filter stands (enumerate_from i (x ∷ xs)) ≡ (i, x) ∷ filter stands (enumerate_from (i + 1) xs)
+live_first i x xs h = cond-true (not (eqb x 0)) _ _ (ap not (ne_eqb x 0 h))
+
+gone_first : (i x : ℕ) (xs : List ℕ) → x ≡ 0 → filter stands (enumerate_from i (x ∷ xs)) ≡ filter stands (enumerate_from (i + 1) xs)
+gone_first i x xs h = cond-false (not (eqb x 0)) _ _ (ap not (eq-eqb x 0 h))
+
+past_first : (r : ℕ × ℕ) (rs : List (ℕ × ℕ)) (skip : ℕ) → (skip ≡ 0 → ⊥) → slice_get rs (skip - 1) ≡ slice_get (r ∷ rs) skip
+past_first r rs zero h = absurd (h refl)
+past_first r rs (suc skip) h = ap (slice_get rs) (omega arith)
+
+module _ (ls : List ℕ) (i skip : ℕ) (w : i < length ls) where
+  turned : filter stands (enumerate_from i (drop i ls)) ≡ filter stands (enumerate_from i (get_or ls i 0 ∷ drop (i + 1) ls))
+  turned = at_drop_more (λ xs. filter stands (enumerate_from i xs)) ls i 0 w
+
+  pub look_found : (get_or ls i 0 ≡ 0 → ⊥) → skip ≡ 0 → Some (i, get_or ls i 0) ≡ standing_from ls i skip
+  look_found h e = sym (ap (standing_from ls i) e ∙ ap (λ rs. slice_get rs 0) (turned ∙ live_first i (get_or ls i 0) (drop (i + 1) ls) h))
+
+  pub look_past : (get_or ls i 0 ≡ 0 → ⊥) → (skip ≡ 0 → ⊥) → standing_from ls (i + 1) (skip - 1) ≡ standing_from ls i skip
+  look_past h e =
+      past_first (i, get_or ls i 0) _ skip e ∙ ap (λ rs. slice_get rs skip) (sym (turned ∙ live_first i (get_or ls i 0) (drop (i + 1) ls) h))
+
+  pub look_over : get_or ls i 0 ≡ 0 → standing_from ls (i + 1) skip ≡ standing_from ls i skip
+  look_over h = ap (λ rs. slice_get rs skip) (sym (turned ∙ gone_first i (get_or ls i 0) (drop (i + 1) ls) h))
+
+pub look_end : (ls : List ℕ) (i skip : ℕ) → length ls ≤ i → None ≡ standing_from ls i skip
+look_end ls i skip l = sym (at_drop_all (λ xs. slice_get (filter stands (enumerate_from i xs)) skip) ls i l)
 
 -- the rung of a number that stands
 module _ (s : Side) (f st : ℕ) (ls : List ℕ) (k n : ℕ) (is : first_number s + k ≡ n) where

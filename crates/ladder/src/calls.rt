@@ -60,6 +60,7 @@ impl Ladder {
     }
 
     // The same in the caller's place, which a refusal leaves as it was. One call of `fill`: what it promises is over this kind's own meaning.
+    // Checked and raised here, and not by `new`: so the ladder is written where it stays, and no whole ladder is copied from a result.
     #[tactic(auto, using(book::proofs::Making::fill_answers, book::proofs::Making::fill_means))]
     pub fn make(place: &mut Option<Ladder>, plan: Sides<Rungs>) -> Result<(), MakeError>
         ensures result { result ≡ made_unless (ladder_refused plan) }
@@ -67,7 +68,7 @@ impl Ladder {
         ensures unchanged { is_ok result ≡ false → place.new ≡ place.old }
         ensures ends { EndsDecide }
     {
-        fill(place, Ladder::new(plan))
+        fill(place, Ladder::check(&plan).map(|()| Ladder::raise(plan)))
     }
 
     // What is left of a number on a side, 0 where the side does not have it.

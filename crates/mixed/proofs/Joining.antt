@@ -1,17 +1,15 @@
 -- A book of two parts, one behind the other: what each answer on the parts is on the whole.
-use Rattle.std.proofs.Common.{◌≡◌, ℕ, zero, suc, ◌+◌, ◌-◌, ◌<◌, ◌≤◌, Bool, true, false, cond, Result, Ok, is_ok, not, ◌&&◌, ◌||◌, eqb, ltb, leb, List, [], ◌∷◌, ◌++◌, length, slice_get, sym, refl, ap, ◌∙◌, ⊎_elim, arith}
+use Rattle.std.proofs.Common.{◌≡◌, ℕ, zero, suc, ◌+◌, ◌-◌, ◌<◌, ◌≤◌, Bool, true, false, cond, Result, not, ◌&&◌, ◌||◌, eqb, ltb, leb, List, [], ◌∷◌, ◌++◌, length, slice_get, sym, refl, ap, ◌∙◌, ⊎_elim, arith}
 use Rattle.std.proofs.lemmas.List.{append_assoc, append-nil, length-append}
 use Rattle.std.proofs.lemmas.Bool.{eqb-true, le-ltb, lt-ltb, and_left, and_right, and_parts, or_left, or_right, or_parts, or_cases, cond-true, cond-false, cond_both, not-true, not_from_true, both_ways, cases_Bool}
 use Rattle.units.specs.declared.side.Side.{Side}
 use Rattle.units.specs.declared.side.Side.TheVariants.{Buy, Sell}
 use Rattle.book.specs.declared.Offer.{Offer}
-use Rattle.book.specs.Meaning.{Meaning, meaning_of, when, take_result, enter_result, remove_result, side_of, with_side, numbered, has, left_of, taken, without, lots, list_takes, in_range, can_take, after_take, can_enter, after_enter, after_remove}
+use Rattle.book.specs.Meaning.{Meaning, meaning_of, when, enter_result, side_of, with_side, numbered, has, left_of, taken, without, lots, list_takes, in_range, can_take, after_take, can_enter, after_enter, after_remove}
 use Rattle.book.specs.declared.Refused.{Refused}
 use Rattle.book.specs.Laws.{distinct, sound}
 use Rattle.kept.specs.Kept.{empty_book}
 use Rattle.mixed.specs.Joined.{joined}
-use Rattle.book.proofs.Answers.{accepts, ok_tells}
-use Rattle.book.proofs.Lefts.{take_whole}
 use Rattle.book.proofs.Sound.{side_distinct, sound_after_take, sound_after_enter, sound_after_remove}
 
 -- Lists
@@ -218,6 +216,22 @@ module _ (m n : Meaning) (same : m.lot ≡ n.lot) (h : sound 128 (joined m n) �
     ap (λ (z : Meaning). joined z n') (e ∙ cond-false (can_take m s k a) (with_side m s (taken (side_of m s) k a)) m f) ∙ ap (joined m) g ∙ back_taken s k a f,
   )
 
+  -- a take of either part keeps the laws of the whole, whatever is taken
+  pub front_taken_sound : (s : Side) (k a : ℕ) → sound 128 (joined (after_take m s k a) n) ≡ true
+  front_taken_sound s k a =
+      ⊎_elim
+      (λ t. ap (sound 128) (take_front s k a (after_take m s k a) t refl).1 ∙ sound_after_take 128 (joined m n) s k a h)
+      (λ f. ap (λ (z : Meaning). sound 128 (joined z n)) (cond-false (can_take m s k a) (with_side m s (taken (side_of m s) k a)) m f) ∙ h)
+      (cases_Bool (can_take m s k a))
+
+  pub back_taken_sound : (s : Side) (k a : ℕ) → sound 128 (joined m (after_take n s k a)) ≡ true
+  back_taken_sound s k a =
+      ⊎_elim
+      (λ t. let p : has (side_of n s) k ≡ true = (and_parts (has (side_of n s) k) (lots n.lot a && leb a (left_of (side_of n s) k)) t).0 in
+      ap (sound 128) (back_taken s k a (and_left (has (side_of m s) k) (lots m.lot a && leb a (left_of (side_of m s) k)) (only_back s k p))) ∙ sound_after_take 128 (joined m n) s k a h)
+      (λ f. ap (λ (z : Meaning). sound 128 (joined m z)) (cond-false (can_take n s k a) (with_side n s (taken (side_of n s) k a)) n f) ∙ h)
+      (cases_Bool (can_take n s k a))
+
   pub remove_front : (s : Side) (k : ℕ) (m' : Meaning) → has (side_of m s) k ≡ true → m' ≡ after_remove m s k → (has (side_of (joined m n) s) k ≡ true) × (joined m' n ≡ after_remove (joined m n) s k)
   remove_front s k m' t e =
       let xs = side_of m s in
@@ -252,6 +266,13 @@ module _ (m n : Meaning) (same : m.lot ≡ n.lot) (h : sound 128 (joined m n) �
     whole_has s k ∙ has_back (side_of m s) (side_of n s) k f,
     ap (λ (z : Meaning). joined z n') (e ∙ cond-false (has (side_of m s) k) (with_side m s (without (side_of m s) k)) m f) ∙ ap (joined m) g ∙ back_removed s k f,
   )
+
+  pub back_removed_sound : (s : Side) (k : ℕ) → sound 128 (joined m (after_remove n s k)) ≡ true
+  back_removed_sound s k =
+      ⊎_elim
+      (λ t. ap (sound 128) (back_removed s k (only_back s k t)) ∙ sound_after_remove 128 (joined m n) s k h)
+      (λ f. ap (λ (z : Meaning). sound 128 (joined m z)) (cond-false (has (side_of n s) k) (with_side n s (without (side_of n s) k)) n f) ∙ h)
+      (cases_Bool (has (side_of n s) k))
 
   -- an entry goes behind the first part, which must not have its number
   pub enter_full : (s : Side) (o : Offer) → 128 ≤ length (side_of (joined m n) s) → can_enter 128 (joined m n) s o ≡ false
@@ -301,44 +322,6 @@ pub record Is (w m n : Meaning) : Type 0 where
   pub lots : m.lot ≡ n.lot
   pub ok : sound 128 (joined m n) ≡ true
   pub whole : joined m n ≡ w
-
--- The whole after a call: what the first part answers decides; r and q are what the calls on the parts answered, m' and n' what the parts mean after them.
-module _ (m n : Meaning) (same : m.lot ≡ n.lot) (h : sound 128 (joined m n) ≡ true) (s : Side) (r : Result (Unit {0}) Refused) (m' : Meaning) where
-  pub took_front : (k a : ℕ) → r ≡ take_result m s k a → m' ≡ after_take m s k a → true ≡ is_ok r → Is (after_take (joined m n) s k a) m' n × (Ok tt ≡ take_result (joined m n) s k a)
-  took_front k a e g t =
-      let w = take_front m n same h s k a m' (ok_tells (can_take m s k a) true r e t) g in (
-        record { lots = ap (λ (z : Meaning). z.lot) g ∙ lot_after_take m s k a ∙ same; ok = ap (sound 128) w.1 ∙ sound_after_take 128 (joined m n) s k a h; whole = w.1 },
-        accepts _ w.0,
-      )
-
-  pub took_back : (k a : ℕ) (q : Result (Unit {0}) Refused) (n' : Meaning) → r ≡ take_result m s k a → m' ≡ after_take m s k a → false ≡ is_ok r → q ≡ take_result n s k a → n' ≡ after_take n s k a → Is (after_take (joined m n) s k a) m' n' × (q ≡ take_result (joined m n) s k a)
-  took_back k a q n' e g t f u =
-      let w = take_back m n same h s k a m' n' (ok_tells (can_take m s k a) false r e t) g u in (
-        record { lots = ap (λ (z : Meaning). z.lot) g ∙ lot_after_take m s k a ∙ same ∙ sym (ap (λ (z : Meaning). z.lot) u ∙ lot_after_take n s k a); ok = ap (sound 128) w.1 ∙ sound_after_take 128 (joined m n) s k a h; whole = w.1 },
-        f ∙ ap when (sym w.0),
-      )
-
-  -- a take of all that is left is a removal
-  module _ (k l : ℕ) (few : sound 64 m ≡ true) (is : l ≡ left_of (side_of m s) k) (e : r ≡ take_result m s k l) (g : m' ≡ after_take m s k l) where
-    had : (b : Bool) → b ≡ is_ok r → has (side_of m s) k ≡ b
-    had b t = sym (ap (can_take m s k) is ∙ (take_whole 64 m s k few).0) ∙ ok_tells (can_take m s k l) b r e t
-
-    gone : m' ≡ after_remove m s k
-    gone = g ∙ ap (after_take m s k) is ∙ (take_whole 64 m s k few).1
-
-    pub removed_front : true ≡ is_ok r → Is (after_remove (joined m n) s k) m' n × (Ok tt ≡ remove_result (joined m n) s k)
-    removed_front t =
-        let w = remove_front m n same h s k m' (had true t) gone in (
-          record { lots = ap (λ (z : Meaning). z.lot) gone ∙ lot_after_remove m s k ∙ same; ok = ap (sound 128) w.1 ∙ sound_after_remove 128 (joined m n) s k h; whole = w.1 },
-          accepts _ w.0,
-        )
-
-    pub removed_back : (q : Result (Unit {0}) Refused) (n' : Meaning) → false ≡ is_ok r → q ≡ remove_result n s k → n' ≡ after_remove n s k → Is (after_remove (joined m n) s k) m' n' × (q ≡ remove_result (joined m n) s k)
-    removed_back q n' t f u =
-        let w = remove_back m n same h s k m' n' (had false t) gone u in (
-          record { lots = ap (λ (z : Meaning). z.lot) gone ∙ lot_after_remove m s k ∙ same ∙ sym (ap (λ (z : Meaning). z.lot) u ∙ lot_after_remove n s k); ok = ap (sound 128) w.1 ∙ sound_after_remove 128 (joined m n) s k h; whole = w.1 },
-          f ∙ ap when (sym w.0),
-        )
 
 -- an order that goes behind the first part
 pub entered : (m n : Meaning) → m.lot ≡ n.lot → sound 128 (joined m n) ≡ true → (s : Side) (o : Offer) (q : Result (Unit {0}) Refused) (n' : Meaning) → length (side_of (joined m n) s) < 128 → (has m.buys o.number.0 || has m.sells o.number.0) ≡ false

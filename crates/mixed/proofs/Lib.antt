@@ -1,1 +1,2 @@
 mod Joining
+mod Parts

@@ -16,6 +16,7 @@ use units::{Lot, Number, OpenOrders, Quantity, Side};
 
 impl MixedBook {
     // A ladder with no orders behind it yet; refused as the ladder alone would be.
+    #[tactic(auto, using(crate::proofs::Parts::made_whole))]
     pub fn new(plan: Sides<Rungs>) -> Result<MixedBook, MakeError>
         ensures value { result_means mixed_means result ≡ made_as (ladder_refused plan) (ladder_of plan) }
         ensures ends { EndsDecide }
@@ -73,6 +74,7 @@ impl Book for MixedBook {
     }
 
     // Numbers are apart, so what the rungs refuse of a number of theirs, the orders do not have.
+    #[tactic(auto, using(crate::proofs::Parts::take_front_answers, crate::proofs::Parts::take_front_leaves, crate::proofs::Parts::take_back_answers, crate::proofs::Parts::take_back_leaves))]
     fn take(&mut self, side: Side, number: Number, amount: Quantity) -> Result<(), Refused> {
         if self.rungs.take(side, number, amount).is_ok() {
             return Ok(());
@@ -92,6 +94,7 @@ impl OpenBook for MixedBook {
     }
 
     // A rung is removed by taking all that is left of it: a ladder itself removes nothing.
+    #[tactic(auto, using(crate::proofs::Parts::remove_front_answers, crate::proofs::Parts::remove_front_leaves, crate::proofs::Parts::remove_back_answers, crate::proofs::Parts::remove_back_leaves))]
     fn remove(&mut self, side: Side, number: Number) -> Result<(), Refused> {
         let left = self.rungs.left(side, number);
         if self.rungs.take(side, number, left).is_ok() {

@@ -48,7 +48,7 @@ fn show(
         let whole = held / FRAME;
         answer(output, text, &buffer[..FRAME * whole], place)?;
         place = place.saturating_add(whole);
-        held = keep_rest(&mut buffer[..held]);
+        held = keep_rest(buffer, held);
     }
     answer(output, text, &buffer[..held], place)
 }

@@ -1,6 +1,8 @@
 // Messages and faults in words.
+use arrayvec::ArrayString;
 use gateway::{Fault, Message};
 use std::fmt;
+use std::fmt::Write;
 use units::{Refusal, Side};
 
 // What a firm wants of a quantity: the side that its message names, if it names one.
@@ -22,15 +24,22 @@ struct Quoted<'a>(&'a [u8]);
 
 impl fmt::Display for Quoted<'_> {
     fn fmt<W: fmt::Write>(&self, f: &mut fmt::Formatter<W>) -> fmt::Result {
-        f.write_char('"')?;
+        // Gathered and written at once, since each piece costs a writer more than its text does. A byte takes four places at most, and the quote behind one.
+        let mut text = ArrayString::<40>::new();
+        text.push('"');
         for &byte in self.0 {
+            if text.remaining_capacity() < 5 {
+                f.write_str(text.as_str())?;
+                text.clear();
+            }
             match byte {
-                b'"' | b'\\' => write!(f, "\\{}", char::from(byte))?,
-                b' '..=b'~' => f.write_char(char::from(byte))?,
-                _ => write!(f, "\\x{byte:02x}")?,
+                b'"' | b'\\' => write!(text, "\\{}", char::from(byte))?,
+                b' '..=b'~' => text.try_push(char::from(byte)).map_err(|_| fmt::Error)?,
+                _ => write!(text, "\\x{byte:02x}")?,
             }
         }
-        f.write_char('"')
+        text.try_push('"').map_err(|_| fmt::Error)?;
+        f.write_str(text.as_str())
     }
 }
 

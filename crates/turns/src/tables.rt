@@ -39,9 +39,15 @@ fn less(left: u32, report: &Report, number: Number) -> u32
     ensures { result ≡ left - (fills_of number.0 report.now + kills_of number.0 report.now) }
 {
     match *report {
-        Report::Fill(taker, fill) => left
-            .saturating_sub(of_number(fill.quantity, taker, number))
-            .saturating_sub(of_number(fill.quantity, fill.maker, number)),
+        Report::Fill(taker, fill) => {
+            // Added before it is subtracted: over many reports each subtraction waits for the one before.
+            let both = of_number(fill.quantity, taker, number).saturating_add(of_number(
+                fill.quantity,
+                fill.maker,
+                number,
+            ));
+            left.saturating_sub(both)
+        }
         Report::Kill(_, killed, quantity) => {
             left.saturating_sub(of_number(quantity, killed, number))
         }

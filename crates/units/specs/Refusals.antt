@@ -1,5 +1,5 @@
--- The number of each refusal and the part that refuses so.
-use Rattle.std.specs.Prelude.{ℕ}
+-- The number of each refusal and the part that refuses so, with that part in words.
+use Rattle.std.specs.Prelude.{ℕ, List, codes}
 use Rattle.units.specs.declared.refusal.Layer.{Layer}
 use Rattle.units.specs.declared.refusal.Layer.TheVariants as layers
 use Rattle.units.specs.declared.refusal.Refusal.{Refusal}
@@ -29,6 +29,11 @@ abbrev pub layer_number : Layer → ℕ
 layer_number layers.File = 1
 layer_number layers.Gateway = 2
 layer_number layers.Market = 3
+
+abbrev pub layer_word : Layer → List ℕ
+layer_word layers.File = codes "file"
+layer_word layers.Gateway = codes "gateway"
+layer_word layers.Market = codes "market"
 
 abbrev pub layer_of : Refusal → Layer
 layer_of refusals.Length = layers.File

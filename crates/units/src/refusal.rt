@@ -1,6 +1,6 @@
 // Why a message, a grant or the making of a book is refused, in the order of the checks.
-ghost use Rattle.std.specs.Prelude.{◌≡◌};
-ghost use Rattle.units.specs.Refusals.{number_of, layer_of, layer_number};
+ghost use Rattle.std.specs.Prelude.{◌≡◌, Some};
+ghost use Rattle.units.specs.Refusals.{number_of, layer_of, layer_number, layer_word};
 
 use std::fmt;
 
@@ -13,6 +13,8 @@ pub enum Layer {
 }
 
 impl fmt::Display for Layer {
+    ghost output = { λ l. Some (layer_word l) };
+
     fn fmt<W: fmt::Write>(&self, f: &mut fmt::Formatter<W>) -> fmt::Result {
         f.write_str(match self {
             Layer::File => "file",

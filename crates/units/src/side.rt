@@ -1,6 +1,6 @@
 // The two sides of a trade. Where a message or a status may leave its side open, it has an `Option<Side>`.
-ghost use Rattle.std.specs.Prelude.{◌≡◌};
-ghost use Rattle.units.specs.Sides.{other};
+ghost use Rattle.std.specs.Prelude.{◌≡◌, Some};
+ghost use Rattle.units.specs.Sides.{other, side_word};
 
 use std::fmt;
 
@@ -23,6 +23,8 @@ impl Side {
 }
 
 impl fmt::Display for Side {
+    ghost output = { λ s. Some (side_word s) };
+
     fn fmt<W: fmt::Write>(&self, f: &mut fmt::Formatter<W>) -> fmt::Result {
         f.write_str(match self {
             Side::Buy => "buy",

@@ -1,13 +1,27 @@
-use Rattle.std.proofs.Common.{sym, ◌∙◌, rules, tests}
-use Rattle.std.proofs.lemmas.Iterator.{YieldsList-from_slice}
-use Rattle.std.proofs.lemmas.Iterator.Adapters.{option_map_id}
-use Rattle.std.proofs.lemmas.Iterator.Consumers.{YieldsList-at, YieldsList-from_copied, YieldsList-from_enumerate, YieldsList-from_filter, nth_from_yields_List}
-use Rattle.ladder.specs.Rungs.{stands}
+use Rattle.std.proofs.Common.{◌+◌, ◌<◌, length, ap, ◌∙◌, refl, arith}
+use Rattle.ladder.proofs.Standing.{standing_from, look_found, look_past, look_over, look_end}
 use Rattle.ladder.proofs.rail.Rail.standing_at.Goals as goal
+use Rattle.ladder.proofs.rail.Rail.standing_at.Goals.{then-left-ne0+else-skip-eq0, else-left-ne0}
+
+pub loop-k-init : goal.loop-k-init
+loop-k-init c = refl
+
+pub returns-then-skip-eq0 : goal.returns-then-skip-eq0
+returns-then-skip-eq0 c =
+    let left = c.args.self.now.left in
+    let w : c.loop-k.k < length left = omega (arith, c.args.self.now.places, c.loop-k-test.true) in
+    look_found left c.loop-k.k c.loop-k.skip w c.if-left-ne0.true c.if-skip-eq0.true ∙ c.loop-k.invariant
+
+pub loop-k-preserved : goal.loop-k-preserved
+loop-k-preserved c =
+    let left = c.args.self.now.left in
+    let k = c.loop-k.k in
+    let w : k < length left = omega (arith, c.args.self.now.places, c.loop-k-test.true) in
+    elim c.if-left-ne0.branch [
+      | then-left-ne0+else-skip-eq0 v ↦ ap (standing_from left (k + 1)) v.skip-is ∙ look_past left k c.loop-k.skip w v.if-left-ne0.true v.if-skip-eq0.false ∙ c.loop-k.invariant
+      | else-left-ne0 v ↦ ap (standing_from left (k + 1)) v.skip-is ∙ look_over left k c.loop-k.skip w v.if-left-ne0.false ∙ c.loop-k.invariant
+    ]
 
 pub returns : goal.returns
 returns c =
-    let left = c.args.self.now.left in
-    sym (option_map_id c.nth.result)
-    ∙ nth_from_yields_List c.nth.result _ c.args.place c.nth.ensures.ran
-    (YieldsList-from_filter _ stands (YieldsList-at c.filter.ensures.source (YieldsList-from_enumerate (YieldsList-at c.enumerate.ensures.source (YieldsList-from_copied (YieldsList-at c.copied.ensures.source (YieldsList-from_slice left c.iter.ensures.rest)))) c.enumerate.ensures.count)) c.filter.ensures.closure (λ x r q k. search (rules, tests)))
+    look_end c.args.self.now.left c.loop-k.k c.loop-k.skip (omega (arith, c.args.self.now.places, c.loop-k-test.false)) ∙ c.loop-k.invariant
